@@ -1,0 +1,9 @@
+pub mod Count
+pub mod FileList
+pub mod Source
+pub mod Folder
+pub mod FaultPlan
+pub mod MemSource
+pub mod FileStore
+pub mod Places
+pub mod MemFolder
