@@ -4,7 +4,7 @@ use Rattle.std.specs.Str.{bytes_eq}
 use Rattle.graph_text.specs.declared.graphs.Triple.{Triple}
 use Rattle.sparql_read.specs.Plain.{edge_reading, plain_sparql_text}
 use Rattle.sparql_read.proofs.Printed.{IsPlainSparql-plain_sparql_text}
-use Rattle.workload_text.specs.Name.{IsName}
+use Rattle.gm_text.specs.Name.{IsName}
 use Rattle.gmark.specs.Rows.{IsQueryRow, IsSparqlRow, MeansQuery}
 
 -- of one name, only the label 0 has it

@@ -13,7 +13,7 @@ use Rattle.std.specs.Prelude.{◌≡◌, ◌<◌, ◌≤◌, ℕ, List, [], ◌�
 use Rattle.std.specs.Io.KnownBytes.{IsAtEnd}
 use Rattle.gm_io.specs.declared.reading.TheConstants.{INPUT_LIMIT}
 use Rattle.gm_io.specs.FileList.{FileList, Told, Gained, GainedPart}
-use Rattle.workload_text.specs.Name.{IsName}
+use Rattle.gm_text.specs.Name.{IsName}
 use Rattle.workload_text.specs.Plain.{IsPlain}
 use Rattle.sparql_read.specs.Plain.{plain_sparql_text}
 use Rattle.gmark.specs.declared.outcomes.Outcome.{Outcome}

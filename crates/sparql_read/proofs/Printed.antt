@@ -2,7 +2,7 @@ use Rattle.std.proofs.Common.{◌≡◌, ℕ, List, [], ◌∷◌, ◌++◌, tru
 use Rattle.std.specs.List.{slice_split, list_all}
 use Rattle.std.proofs.lemmas.Bool.Decides.{nat_tests}
 use Rattle.std.proofs.lemmas.List.Splits.{slice_split-cons_yes, slice_split-cons_no}
-use Rattle.workload_text.specs.Name.{is_name_byte, IsName}
+use Rattle.gm_text.specs.Name.{is_name_byte, IsName}
 use Rattle.sparql_read.specs.Plain.{is_blank, IsPlainSparql, plain_sparql_text, edge_reading}
 
 -- no byte of a name stands between words

@@ -1,7 +1,7 @@
 -- SPARQL texts of the plain form: one group of one pattern, whose path is one predicate.
 use Rattle.std.specs.Prelude.{◌≡◌, ◌≢◌, ℕ, Bool, ◌||◌, ◌&&◌, ◌==◌, List, [], ◌∷◌, ◌++◌, filter, codes, IsTrue, ◌⊎◌, true, false}
 use Rattle.std.specs.List.{list_all, slice_split}
-use Rattle.workload_text.specs.Name.{is_name_byte, IsName}
+use Rattle.gm_text.specs.Name.{is_name_byte, IsName}
 use Rattle.sparql_read.specs.declared.plain.PlainSparql.{PlainSparql}
 
 -- space and LF stand between words

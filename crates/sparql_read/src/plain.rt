@@ -3,68 +3,11 @@ ghost use Rattle.sparql_read.specs.declared.plain.PlainSparql.{PlainSparql};
 ghost use Rattle.sparql_read.specs.Plain.{is_blank, is_not_empty, words_of, plain_words, IsVariableName, IsPlainSparql};
 ghost use Rattle.sparql_read.specs.Names.{reading_of};
 
+use gm_text::{Items, are_name_bytes, is_name};
 use std::alloc::{AllocError, Global};
-use std::marker::Model;
-use workload_text::{are_name_bytes, is_name};
 
-/// The bytes of a name, seen as their list.
-#[derive(Drop)]
-pub struct SparqlWord {
-    items: Vec<u8>,
-}
-
-impl Model for SparqlWord {
-    ghost use Rattle.std.specs.Prelude.{ℕ, List};
-
-    ghost Value = { List ℕ };
-
-    ghost view = { λ word. word.items.items };
-}
-
-impl SparqlWord {
-    /// A name of these bytes, with no memory taken.
-    pub fn of(items: Vec<u8>) -> Self
-        ensures { result ≡ items.items }
-    {
-        SparqlWord { items }
-    }
-
-    /// The number of bytes.
-    pub fn len(&self) -> usize
-        ensures { result ≡ length self.now }
-    {
-        self.items.len()
-    }
-
-    /// Whether there are no bytes.
-    pub fn is_empty(&self) -> bool
-        ensures { IsTrue result ↔ (self.now ≡ []) }
-    {
-        self.items.is_empty()
-    }
-
-    /// The byte at an index.
-    pub fn at(&self, index: usize) -> &u8
-        requires { index < length self.now }
-        ensures { result.now ≡ slice_index self.now index }
-    {
-        &self.items[index]
-    }
-
-    /// All bytes.
-    pub fn as_slice(&self) -> &[u8]
-        ensures { result.now ≡ self.now }
-    {
-        &self.items
-    }
-
-    /// The bytes as a vector, with no memory taken.
-    pub fn into_items(self) -> Vec<u8>
-        ensures { result.items ≡ self }
-    {
-        self.items
-    }
-}
+/// The bytes of a name.
+pub type SparqlWord = Items<u8>;
 
 /// What a SPARQL text of the plain form says.
 ///
@@ -108,11 +51,11 @@ pub fn read_plain_sparql(alloc: Global, text: &[u8]) -> Result<Option<PlainSparq
         return Ok(None);
     }
     Ok(Some(PlainSparql {
-        first: SparqlWord::of(names.first.to_vec(alloc)?),
-        second: SparqlWord::of(names.second.to_vec(alloc)?),
-        subject: SparqlWord::of(names.subject.to_vec(alloc)?),
-        predicate: SparqlWord::of(names.predicate.to_vec(alloc)?),
-        object: SparqlWord::of(names.object.to_vec(alloc)?),
+        first: Items::of(names.first.to_vec(alloc)?),
+        second: Items::of(names.second.to_vec(alloc)?),
+        subject: Items::of(names.subject.to_vec(alloc)?),
+        predicate: Items::of(names.predicate.to_vec(alloc)?),
+        object: Items::of(names.object.to_vec(alloc)?),
     }))
 }
 

@@ -1,7 +1,7 @@
 -- The plain form of a workload text: one label, one growing type, one edge, and one query that asks for
 -- the ends of each edge of that label.
 use Rattle.std.specs.Prelude.{◌≡◌, ℕ, List, ◌++◌, codes}
-use Rattle.workload_text.specs.Name.{IsName}
+use Rattle.gm_text.specs.Name.{IsName}
 
 -- the text before the label's name, between the two names, and after the type's name
 abbrev pub before_label : List ℕ

@@ -1,11 +1,10 @@
 ghost use Rattle.std.specs.Prelude.{◌≡◌, ◌<◌, ◌↔◌, ℕ, List, [], ◌++◌, ◌∷◌, length, slice_index, Some, IfOk, IfSome, IsTrue, MatchOption, option_map, false};
 ghost use Rattle.std.specs.List.{prefix_len};
-ghost use Rattle.workload_text.specs.Name.{is_name_byte, IsName};
+ghost use Rattle.gm_text.specs.Name.{is_name_byte, IsName};
 ghost use Rattle.workload_text.specs.Plain.{IsPlain, after_type};
 
-use crate::names::{is_name, is_name_byte};
+use gm_text::{Items, is_name, is_name_byte};
 use std::alloc::{AllocError, Global};
-use std::marker::Model;
 
 const BEFORE_LABEL: &[u8] = b"gmark-workload 1\nlabel ";
 
@@ -14,62 +13,8 @@ const BEFORE_TYPE: &[u8] = b"\ntype ";
 const AFTER_TYPE: &[u8] =
     b" growing\nedge 0 0 0 =\nquery 0 chain linear linear\nrule x0 x1\nx0 0 x1\nend\n";
 
-/// The bytes of a name, seen as their list.
-#[derive(Drop)]
-pub struct PlainName {
-    items: Vec<u8>,
-}
-
-impl Model for PlainName {
-    ghost Value = { List ℕ };
-
-    ghost view = { λ name. name.items.items };
-}
-
-impl PlainName {
-    /// A name of these bytes, with no memory taken.
-    pub fn of(items: Vec<u8>) -> Self
-        ensures { result ≡ items.items }
-    {
-        PlainName { items }
-    }
-
-    /// The number of bytes.
-    pub fn len(&self) -> usize
-        ensures { result ≡ length self.now }
-    {
-        self.items.len()
-    }
-
-    /// Whether there are no bytes.
-    pub fn is_empty(&self) -> bool
-        ensures { IsTrue result ↔ (self.now ≡ []) }
-    {
-        self.items.is_empty()
-    }
-
-    /// The byte at an index.
-    pub fn at(&self, index: usize) -> &u8
-        requires { index < length self.now }
-        ensures { result.now ≡ slice_index self.now index }
-    {
-        &self.items[index]
-    }
-
-    /// All bytes.
-    pub fn as_slice(&self) -> &[u8]
-        ensures { result.now ≡ self.now }
-    {
-        &self.items
-    }
-
-    /// The bytes as a vector, with no memory taken.
-    pub fn into_items(self) -> Vec<u8>
-        ensures { result.items ≡ self }
-    {
-        self.items
-    }
-}
+/// The bytes of a name.
+pub type PlainName = Items<u8>;
 
 /// What a workload text of the plain form says: the name of its label.
 #[derive(Drop)]
@@ -89,7 +34,7 @@ pub fn read_plain(alloc: Global, bytes: &[u8]) -> Result<Option<PlainWork>, Allo
     let Some(label) = plain_label(bytes) else {
         return Ok(None);
     };
-    let label = PlainName::of(label.to_vec(alloc)?);
+    let label = Items::of(label.to_vec(alloc)?);
     Ok(Some(PlainWork { label }))
 }
 

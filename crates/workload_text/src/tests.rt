@@ -1,4 +1,4 @@
-use crate::{is_name, read_plain};
+use crate::read_plain;
 use std::alloc::{AllocError, Global};
 use std::test::Fail;
 
@@ -22,22 +22,6 @@ fn plain_texts(rt: HostRuntime) -> Result<(), Fail> {
     assert_eq!(rt; label_of(alloc, KNOWS)?, Some(b"knows".to_vec(alloc)?));
     for text in [WITH_DASH, ""] {
         assert_eq!(rt; label_of(alloc, text)?, None);
-    }
-    Ok(())
-}
-
-#[test]
-fn names(rt: HostRuntime) -> Result<(), Fail> {
-    let cases = [
-        ("abcdefghijklmnopqrstuvwxyzABCDEF", true),
-        ("abcdefghijklmnopqrstuvwxyzABCDEFG", false),
-        ("a_9", true),
-        ("9a", false),
-        ("_a", false),
-        ("", false),
-    ];
-    for (text, named) in cases {
-        assert_eq!(rt; is_name(text.as_bytes()), named);
     }
     Ok(())
 }

@@ -1,5 +1,5 @@
 use Rattle.std.proofs.Common.{◌∙◌}
-use Rattle.workload_text.proofs.OptionLemmas.{exactly_none}
+use Rattle.gm_text.proofs.OptionLemmas.{exactly_none}
 use Rattle.sparql_read.specs.Plain.{IsPlainSparql}
 use Rattle.sparql_read.proofs.plain.read_plain_sparql.Goals as goal
 

@@ -1,6 +1,6 @@
 use Rattle.std.proofs.Common.{◌≡◌}
 use Rattle.workload_text.specs.Plain.{IsPlain}
-use Rattle.workload_text.proofs.OptionLemmas.{exactly_none, exactly_some}
+use Rattle.gm_text.proofs.OptionLemmas.{exactly_none, exactly_some}
 use Rattle.workload_text.proofs.plain.read_plain.Goals as goal
 
 pub returns-in_default-clause-exact : goal.returns-in_default-clause-exact

@@ -1,6 +1,6 @@
 use Rattle.std.proofs.Common.{arith}
 use Rattle.std.proofs.lemmas.List.Sums.{prefix_len-le-length}
-use Rattle.workload_text.specs.Name.{is_name_byte}
+use Rattle.gm_text.specs.Name.{is_name_byte}
 use Rattle.workload_text.proofs.NameLemmas.{split-name}
 use Rattle.workload_text.proofs.plain.split_name.Goals as goal
 

@@ -1,0 +1,11 @@
+pub mod Limits
+pub mod Json
+pub mod Rule
+pub mod TypeRules
+pub mod LabelRules
+pub mod DegreeSpec
+pub mod ConstraintRules
+pub mod WorkloadRules
+pub mod Rules
+pub mod Config
+pub mod Reading

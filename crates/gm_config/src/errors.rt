@@ -1,0 +1,45 @@
+//! Why there is no configuration.
+
+ghost use Rattle.std.specs.Prelude.{◌≡◌};
+
+use std::alloc::AllocError;
+use thiserror::Error;
+
+/// The first rule that a value breaks.
+#[derive(Clone, Copy, Debug, PartialEq, Eq)]
+pub struct Broken {
+    /// The number of the rule, from 1 to 24.
+    pub rule: u8,
+    /// The first index at which it is broken, 0 where the rule has one index.
+    pub index: u32,
+}
+
+/// What is wrong with an input.
+#[derive(Clone, Copy, Debug, PartialEq, Eq)]
+pub enum ConfigFault {
+    /// The input is no JSON.
+    NotJson,
+    /// Its value breaks a rule.
+    Broken(Broken),
+}
+
+/// Why a configuration was not read.
+#[derive(Debug, Drop, Error)]
+pub enum ConfigError {
+    /// The input has none.
+    #[error("the input is no configuration")]
+    Fault(ConfigFault),
+    /// Memory ran out.
+    #[error("out of memory")]
+    NoMemory,
+}
+
+impl From<AllocError> for ConfigError {
+    ghost use Rattle.gm_config.specs.declared.errors.ConfigError.TheVariants.{NoMemory};
+
+    ghost from_gives = { λ _ error. error ≡ NoMemory };
+
+    fn from(_: AllocError) -> Self {
+        ConfigError::NoMemory
+    }
+}

@@ -1,0 +1,6 @@
+pub mod EntryLemmas
+pub mod TableLemmas
+pub mod RowLemmas
+pub mod RankLemmas
+pub mod ClosureLemmas
+pub mod GreatestLemmas

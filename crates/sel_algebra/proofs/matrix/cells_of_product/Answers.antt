@@ -1,0 +1,7 @@
+use Rattle.std.proofs.Common.{arith}
+use Rattle.sel_algebra.specs.Table.{laid_out, product_at}
+use Rattle.sel_algebra.proofs.TableLemmas.{first_cells-append}
+use Rattle.sel_algebra.proofs.matrix.cells_of_product.Goals as goal
+
+pub loop-from-preserved : goal.loop-from-preserved
+loop-from-preserved c = rw c.in_ok-append.ensures.items (first_cells-append _ (product_at (laid_out c.args.kinds.now c.args.first.now) (laid_out c.args.kinds.now c.args.second.now)) _ _ _ _ _ c.loop-from.invariant c.product_row.ensures (omega arith))

@@ -1,0 +1,6 @@
+use Rattle.std.proofs.lemmas.Nat.{div-add-mod'}
+use Rattle.sel_algebra.proofs.TableLemmas.{first_cells-more}
+use Rattle.sel_algebra.proofs.matrix.cells_of_sum.Goals as goal
+
+pub loop-place-preserved : goal.loop-place-preserved
+loop-place-preserved c = rw (c.in_ok-push.ensures.items, first_cells-more, div-add-mod') (cc)

@@ -1,0 +1,5 @@
+pub mod Operators
+pub mod Laws
+pub mod Entries
+pub mod Table
+pub mod Closure
