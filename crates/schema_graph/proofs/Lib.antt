@@ -1,0 +1,4 @@
+pub mod EdgeLemmas
+pub mod SymbolLemmas
+pub mod LabelledLemmas
+pub mod ConfiguredLemmas
