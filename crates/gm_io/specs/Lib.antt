@@ -7,3 +7,5 @@ pub mod MemSource
 pub mod FileStore
 pub mod Places
 pub mod MemFolder
+pub mod SliceSource
+pub mod CountFolder

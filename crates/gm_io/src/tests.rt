@@ -1,6 +1,8 @@
 ghost use Rattle.std.specs.Prelude.{◌≡◌, false};
 
-use crate::{Failed, Folder, MemFolder, MemSource, ReadError, Source, read_all};
+use crate::{
+    CountFolder, Failed, Folder, MemFolder, MemSource, ReadError, SliceSource, Source, read_all,
+};
 use std::test::Fail;
 
 #[test]
@@ -21,6 +23,12 @@ fn a_source_fails_at_call_2(rt: HostRuntime) -> Result<(), Fail> {
 fn an_input_is_read_whole_or_not_at_all(rt: HostRuntime) -> Result<(), Fail> {
     let alloc = rt.alloc();
     let mut source = MemSource::new(b"abcde".to_vec(alloc)?, Vec::new(alloc));
+    assert_eq!(rt;
+        read_all(alloc, &mut source)?.as_slice(),
+        b"abcde".as_slice()
+    );
+
+    let mut source = SliceSource::new(b"abcde");
     assert_eq!(rt;
         read_all(alloc, &mut source)?.as_slice(),
         b"abcde".as_slice()
@@ -74,5 +82,15 @@ fn a_failed_write_leaves_a_part(rt: HostRuntime) -> Result<(), Fail> {
         assert_eq!(rt; folder.file_count(), 1);
         assert_eq!(rt; folder.bytes(0), bytes);
     }
+    Ok(())
+}
+
+#[test]
+fn a_folder_counts(rt: HostRuntime) -> Result<(), Fail> {
+    let mut folder = CountFolder::new();
+    assert_eq!(rt; folder.create("one"), Ok(()));
+    assert_eq!(rt; folder.write(b"first"), Ok(()));
+    assert_eq!(rt; folder.finish(), Ok(()));
+    assert_eq!(rt; (folder.files(), folder.bytes(), folder.calls()), (1, 5, 3));
     Ok(())
 }

@@ -1,14 +1,9 @@
-//! The program `gmark`: it hands its words, its standard input and the current folder to [`top::run`],
+//! The program `gmark`: it hands its words, its standard input and the current folder to [`gm_top::run`],
 //! prints the line of the outcome and ends with its status.
 #![tactic(auto)]
 
-mod outcomes;
-#[cfg(test)]
-mod tests;
-mod top;
-
 use gm_io::{DirFolder, StdSource};
-use outcomes::Outcome;
+use gm_top::{Outcome, run};
 use std::process::ExitCode;
 use std::rt::Env;
 use std::{env, io};
@@ -24,10 +19,9 @@ fn main(rt: HostRuntime) -> ExitCode {
     };
     let mut source = StdSource::new(&rt);
     let mut folder = DirFolder::new(&rt);
-    let outcome = top::run(rt.alloc(), &words, &mut source, &mut folder);
+    let outcome = run(rt.alloc(), &words, &mut source, &mut folder);
     ExitCode::from(shown_status(&rt, outcome))
 }
-
 /// The words of the command line, without the program's name.
 fn command_words<R: Env + AllocGlobal>(rt: &R) -> io::Result<Vec<String>> {
     let words: Vec<String> = env::args(rt)?.skip(1).collect(rt.alloc())?;

@@ -1,2 +1,3 @@
+pub mod EdgesText
 pub mod Graph
 pub mod Pairs

@@ -1,4 +1,5 @@
-use crate::{Graph, Pairs, Triple};
+use crate::{Edges, Graph, GraphError, Pairs, Triple, read_edges, write_edges};
+use std::alloc::Global;
 use std::test::Fail;
 
 #[test]
@@ -31,5 +32,61 @@ fn pairs(rt: HostRuntime) -> Result<(), Fail> {
     assert_eq!(rt; pairs.len(), 3);
     assert_eq!(rt; *pairs.at(1), (0, 2));
     assert_eq!(rt; pairs.as_slice(), [(0, 1), (0, 2), (1, 0)].as_slice());
+    Ok(())
+}
+
+/// The first bad line of a text, where it has one.
+fn bad_line_of(alloc: Global, text: &[u8]) -> Option<u64> {
+    match read_edges(alloc, text) {
+        Err(GraphError::BadLine { line }) => Some(line),
+        _ => None,
+    }
+}
+
+#[test]
+fn bad_lines(rt: HostRuntime) {
+    for (text, line) in [
+        (b"0 0 1".as_slice(), 1),
+        (b"0 0 1\n00 0 1\n", 2),
+        (b"0 64 1\n", 1),
+        (b"1000000 0 1\n", 1),
+        (b"0 0 1\n0 0  1\n", 2),
+        (b"0 0 1\n\n0 0 1\n", 2),
+        (b"0 0 1 \n", 1),
+    ] {
+        assert_eq!(rt; bad_line_of(rt.alloc(), text), Some(line));
+    }
+}
+
+/// What a text is read as, appended to these bytes.
+fn written_back(alloc: Global, before: &[u8], text: &[u8]) -> Result<Vec<u8>, GraphError> {
+    let edges = Edges::of(read_edges(alloc, text)?.into_items());
+    let mut out = before.to_vec(alloc)?;
+    write_edges(&mut out, &edges)?;
+    Ok(out)
+}
+
+#[test]
+fn texts(rt: HostRuntime) -> Result<(), Fail> {
+    let alloc = rt.alloc();
+    assert_eq!(rt; read_edges(alloc, b"")?.is_empty(), true);
+    let read = read_edges(alloc, b"3 0 5\n0 63 999999\n")?;
+    let triples = [
+        Triple {
+            src: 3,
+            label: 0,
+            trg: 5,
+        },
+        Triple {
+            src: 0,
+            label: 63,
+            trg: 999_999,
+        },
+    ];
+    assert_eq!(rt; read.as_slice(), triples.as_slice());
+    assert_eq!(rt;
+        written_back(alloc, b"x", b"3 0 5\n0 63 999999\n")?.as_slice(),
+        b"x3 0 5\n0 63 999999\n".as_slice()
+    );
     Ok(())
 }

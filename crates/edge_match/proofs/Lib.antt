@@ -1,0 +1,14 @@
+pub mod AllEdgesLemmas
+pub mod ConformingLemmas
+pub mod DrawingLemmas
+pub mod FreeSideLemmas
+pub mod LimitLemmas
+pub mod MatchedLemmas
+pub mod MatchingLemmas
+pub mod PlaceLemmas
+pub mod RankLemmas
+pub mod SideLemmas
+pub mod StubLemmas
+pub mod TotalLemmas
+pub mod TypeLemmas
+pub mod WordLemmas

@@ -1,0 +1,9 @@
+pub mod Stubs
+pub mod Matching
+pub mod Conforming
+pub mod FreeSide
+pub mod ConfigSides
+pub mod DrawnDegrees
+pub mod Limit
+pub mod ConformingGraph
+pub mod AllEdges

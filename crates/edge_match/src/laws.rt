@@ -1,0 +1,15 @@
+//! What is true of the edges of all constraints together.
+
+ghost use Rattle.edge_match.specs.AllEdges.{AllEdgesConform, AllEdgesAreOne};
+
+/// The edges of all constraints, one constraint after another, conform to the configuration: each of them has
+/// the source type, the label and the target type of exactly one constraint, no node has more edges of a
+/// constraint than its drawn degree, and each constraint has as many edges as the smaller of its totals.
+pub fn all_edges_conform()
+    ensures { AllEdgesConform }
+{}
+
+/// A configuration and a seed have one list of edges alone.
+pub fn all_edges_are_one()
+    ensures { AllEdgesAreOne }
+{}

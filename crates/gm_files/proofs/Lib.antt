@@ -1,0 +1,3 @@
+pub mod Gains
+pub mod Counting
+pub mod Splits

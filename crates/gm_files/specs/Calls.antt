@@ -1,0 +1,19 @@
+-- How many calls of a folder it takes to put files into it.
+--   pieces_of n           the pieces that n bytes are written in
+--   file_calls n          the calls for one file of n bytes
+--   all_calls files       the calls for all of these files
+use Rattle.std.specs.Prelude.{ℕ, ◌+◌, ◌-◌, ◌/◌, length, sum_by}
+use Rattle.gm_io.specs.FileList.{FileList}
+use Rattle.gm_files.specs.declared.putting.TheConstants.{PIECE_MOST}
+
+-- one piece for each started 65,536 bytes
+abbrev pub pieces_of : ℕ → ℕ
+pieces_of n = (n + (PIECE_MOST - 1)) / PIECE_MOST
+
+-- one create, one write for each piece, and one finish
+abbrev pub file_calls : ℕ → ℕ
+file_calls n = 2 + pieces_of n
+
+-- the sum over the files
+abbrev pub all_calls : FileList → ℕ
+all_calls files = sum_by (λ file. file_calls (length file.1)) files

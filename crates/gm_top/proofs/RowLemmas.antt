@@ -1,0 +1,27 @@
+-- The printed text means the query: its one reading has the query's rows over every graph.
+use Rattle.std.proofs.Common.{◌≡◌, ◌↔◌, ℕ, zero, suc, List, [], ◌∷◌, cond, refl, subst, Some, slice_get, Contains, codes}
+use Rattle.std.specs.Str.{bytes_eq}
+use Rattle.graph_text.specs.declared.graphs.Triple.{Triple}
+use Rattle.sparql_read.specs.Plain.{edge_reading, plain_sparql_text}
+use Rattle.sparql_read.proofs.Printed.{IsPlainSparql-plain_sparql_text}
+use Rattle.gm_text.specs.Name.{IsName}
+use Rattle.gm_top.specs.Rows.{IsQueryRow, IsSparqlRow, MeansQuery}
+
+-- of one name, only the label 0 has it
+one_label : (name : List ℕ) (label : ℕ) → slice_get (name ∷ []) label ≡ Some name → label ≡ 0
+one_label name zero named = refl
+one_label name (suc label) named = cc
+
+query_row : (graph : List Triple) (src label trg a b : ℕ) → label ≡ 0 → src ≡ a → trg ≡ b → Contains graph (record { src = src; label = label; trg = trg }) → IsQueryRow graph a b
+query_row graph src label trg a b p q r matched =
+    let same : ◌≡◌ {A = Triple} (record { src = src; label = label; trg = trg }) (record { src = a; label = 0; trg = b }) = λ i. record { src = q i; label = p i; trg = r i } in
+    subst (λ (triple : Triple). Contains graph triple) same matched
+
+pub IsSparqlRow-plain : (label : List ℕ) (graph : List Triple) (a b : ℕ) → IsSparqlRow (label ∷ []) (edge_reading label) graph a b ↔ IsQueryRow graph a b
+IsSparqlRow-plain label graph a b = (
+  λ row. query_row graph _ row.edge_label _ a b (one_label label row.edge_label row.named) row.first row.second row.matched,
+  λ row. record { value = λ variable. cond (bytes_eq variable (codes "h0")) a b; edge_label = 0; named = refl; matched = row; first = refl; second = refl },
+)
+
+pub MeansQuery-plain : (label : List ℕ) → IsName label → MeansQuery label (plain_sparql_text label)
+MeansQuery-plain label name = record { reading = edge_reading label; is_read = IsPlainSparql-plain_sparql_text label name; rows = IsSparqlRow-plain label }

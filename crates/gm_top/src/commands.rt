@@ -1,0 +1,49 @@
+//! The forms of the command line.
+
+ghost use Rattle.std.specs.Prelude.{◌≡◌, ◌↔◌, IsTrue, MatchOption, map, string_bytes, codes};
+ghost use Rattle.gm_top.specs.Command.{IsCommand, file_of};
+
+use gm_text::{Decimal, read_decimal};
+
+/// What the words of a command line ask for.
+#[derive(Clone, Copy, Debug, PartialEq, Eq)]
+pub enum Command {
+    /// `translate`: the texts of the queries of a workload.
+    Translate,
+    /// `generate SEED`: the graph of a configuration.
+    Generate {
+        /// The seed of all draws.
+        seed: u64,
+    },
+}
+
+/// The command that the words ask for, if they have one of the forms.
+pub(crate) fn command_of(words: &[String]) -> Option<Command>
+    ensures { MatchOption result ((command : Command) → ¬ IsCommand command (map string_bytes words.now)) (λ command. IsCommand command (map string_bytes words.now)) }
+{
+    match words {
+        [word] if is_word(word, "translate") => Some(Command::Translate),
+        [word, seed] if is_word(word, "generate") => match read_decimal(seed.as_bytes()) {
+            Decimal::Value(seed) => Some(Command::Generate { seed }),
+            _ => None,
+        },
+        _ => None,
+    }
+}
+
+/// Whether a word is this one.
+fn is_word(word: &String, text: &str) -> bool
+    ensures { IsTrue result ↔ (string_bytes word.now ≡ text.now) }
+{
+    word.as_str() == text
+}
+
+/// The name of the file that a command makes.
+pub(crate) fn file_of(command: Command) -> &'static str
+    ensures { result.now ≡ file_of command }
+{
+    match command {
+        Command::Translate => "query-0.sparql",
+        Command::Generate { .. } => "graph.txt",
+    }
+}

@@ -1,0 +1,177 @@
+//! How a run ends: its exit status and the line that is printed.
+
+ghost use Rattle.std.specs.Prelude.{◌≡◌, string_bytes, IfOk};
+ghost use Rattle.gm_top.specs.Outcome.{status_of, line_of, broken_line, stubs_line, side_word};
+
+use edge_match::{MatchError, Side, TooManyStubs};
+use gm_config::{Broken, ConfigError, ConfigFault};
+use gm_io::ReadError;
+use std::alloc::{AllocError, Global};
+
+/// How a run of the program ends.
+#[derive(Clone, Copy, Debug, PartialEq, Eq)]
+pub enum Outcome {
+    /// All files are written.
+    Done,
+    /// The words of the command line have none of the forms. Nothing was read.
+    Usage,
+    /// A read of the input failed.
+    ReadFault,
+    /// The input has more bytes than are accepted.
+    InputTooLong,
+    /// The input is no configuration.
+    Config(ConfigFault),
+    /// The input isn't of a form that this version translates.
+    NotBuilt,
+    /// A side of a constraint has more stubs than a side may have.
+    TooManyStubs {
+        /// The number of the constraint.
+        constraint: u8,
+        /// Its side.
+        side: Side,
+        /// The number of the side's stubs.
+        total: u64,
+    },
+    /// A call of the folder failed.
+    WriteFault,
+    /// Memory ran out.
+    NoMemory,
+}
+
+impl Outcome {
+    /// The exit status of the program.
+    pub fn status(&self) -> u8
+        ensures { result ≡ status_of self.now }
+    {
+        match self {
+            Outcome::Done => 0,
+            Outcome::Usage => 2,
+            Outcome::InputTooLong => 3,
+            Outcome::Config(_) => 3,
+            Outcome::ReadFault => 4,
+            Outcome::WriteFault => 5,
+            Outcome::NoMemory => 6,
+            Outcome::TooManyStubs { .. } => 8,
+            Outcome::NotBuilt => 9,
+        }
+    }
+
+    /// The line that the program prints, without its line end.
+    pub fn line(&self, alloc: Global) -> Result<String, AllocError>
+        ensures { IfOk result (λ line. string_bytes line ≡ line_of self.now) }
+    {
+        match *self {
+            Outcome::Done => String::from_str(alloc, "gmark: done"),
+            Outcome::Usage => String::from_str(alloc, "gmark: unknown command line"),
+            Outcome::InputTooLong => String::from_str(
+                alloc,
+                "gmark: input longer than 16777216 bytes",
+            ),
+            Outcome::Config(ConfigFault::NotJson) => String::from_str(
+                alloc,
+                "gmark: configuration is not JSON",
+            ),
+            Outcome::Config(ConfigFault::Broken(broken)) => broken_line(alloc, broken),
+            Outcome::ReadFault => String::from_str(alloc, "gmark: reading failed"),
+            Outcome::WriteFault => String::from_str(alloc, "gmark: writing failed"),
+            Outcome::NoMemory => String::from_str(alloc, "gmark: out of memory"),
+            Outcome::TooManyStubs {
+                constraint,
+                side,
+                total,
+            } => stubs_line(alloc, constraint, side, total),
+            Outcome::NotBuilt => String::from_str(alloc, "gmark: form not built yet"),
+        }
+    }
+}
+
+/// The line of a configuration that breaks a rule.
+fn broken_line(alloc: Global, broken: Broken) -> Result<String, AllocError>
+    ensures { IfOk result (λ line. string_bytes line ≡ broken_line broken.rule broken.index) }
+{
+    let rule = broken.rule;
+    let index = broken.index;
+    format!(in alloc; "gmark: configuration breaks rule C{rule} at {index}")
+}
+
+/// The line of a side with too many stubs.
+fn stubs_line(alloc: Global, constraint: u8, side: Side, total: u64) -> Result<String, AllocError>
+    ensures { IfOk result (λ line. string_bytes line ≡ stubs_line constraint side total) }
+{
+    let side = side_word(side);
+    format!(in alloc; "gmark: constraint {constraint} {side}: {total} stubs")
+}
+
+/// The word that is printed for a side.
+fn side_word(side: Side) -> &'static str
+    ensures { result.now ≡ side_word side }
+{
+    match side {
+        Side::Out => "out",
+        Side::In => "in",
+    }
+}
+
+impl From<AllocError> for Outcome {
+    ghost use Rattle.gm_top.specs.declared.outcomes.Outcome.TheVariants.{NoMemory};
+
+    ghost from_gives = { λ _ outcome. outcome ≡ NoMemory };
+
+    fn from(_: AllocError) -> Self {
+        Outcome::NoMemory
+    }
+}
+
+impl From<ReadError> for Outcome {
+    ghost use Rattle.gm_top.specs.Outcome.{read_outcome};
+
+    ghost from_gives = { λ error outcome. outcome ≡ read_outcome error };
+
+    fn from(error: ReadError) -> Self {
+        match error {
+            ReadError::ReadFault => Outcome::ReadFault,
+            ReadError::InputTooLong => Outcome::InputTooLong,
+            ReadError::NoMemory => Outcome::NoMemory,
+        }
+    }
+}
+
+impl From<ConfigError> for Outcome {
+    ghost use Rattle.gm_top.specs.Outcome.{config_outcome};
+
+    ghost from_gives = { λ error outcome. outcome ≡ config_outcome error };
+
+    fn from(error: ConfigError) -> Self {
+        match error {
+            ConfigError::Fault(fault) => Outcome::Config(fault),
+            ConfigError::NoMemory => Outcome::NoMemory,
+        }
+    }
+}
+
+impl From<TooManyStubs> for Outcome {
+    ghost use Rattle.gm_top.specs.Outcome.{stubs_outcome};
+
+    ghost from_gives = { λ over outcome. outcome ≡ stubs_outcome over };
+
+    fn from(over: TooManyStubs) -> Self {
+        Outcome::TooManyStubs {
+            constraint: over.constraint,
+            side: over.side,
+            total: over.total,
+        }
+    }
+}
+
+impl From<MatchError> for Outcome {
+    ghost use Rattle.gm_top.specs.Outcome.{match_outcome};
+
+    ghost from_gives = { λ error outcome. outcome ≡ match_outcome error };
+
+    fn from(error: MatchError) -> Self {
+        match error {
+            MatchError::TooManyStubs(over) => Outcome::from(over),
+            MatchError::NoMemory => Outcome::NoMemory,
+        }
+    }
+}

@@ -1,4 +1,0 @@
-pub mod AnswerLemmas
-pub mod FileLemmas
-pub mod RowLemmas
-pub mod WordLemmas

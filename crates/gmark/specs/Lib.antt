@@ -1,3 +1,0 @@
-pub mod Outcome
-pub mod Rows
-pub mod Translate

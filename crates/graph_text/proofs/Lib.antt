@@ -1,0 +1,3 @@
+pub mod BadLineLemmas
+pub mod EdgesTextLemmas
+pub mod PartLemmas
