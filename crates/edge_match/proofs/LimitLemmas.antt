@@ -3,12 +3,12 @@ use Rattle.std.proofs.Common.{◌≡◌, ℕ, ◌<◌, ◌⊎◌, Bool, true, fa
 use Rattle.std.specs.Prelude.{MatchOption, nat_lt}
 use Rattle.std.specs.Option.{option_or}
 use Rattle.gm_config.specs.Config.{ConfigValue}
-use Rattle.edge_match.specs.declared.sides.TheConstants.{STUBS_MOST}
 use Rattle.edge_match.specs.declared.config_sides.Side.{Side}
 use Rattle.edge_match.specs.declared.config_sides.Side.TheVariants.{Out, In}
 use Rattle.edge_match.specs.declared.errors.TooManyStubs.{TooManyStubs}
 use Rattle.edge_match.specs.ConfigSides.{is_free}
 use Rattle.edge_match.specs.DrawnDegrees.{table_total}
+use Rattle.edge_match.specs.StubLimit.{stubs_most}
 use Rattle.edge_match.specs.Limit.{side_over, first_side_over, IsFirstOver}
 
 reported : (free above : Bool) (here report : TooManyStubs) → cond free None (cond above (Some here) None) ≡ Some report → here ≡ report
@@ -24,7 +24,7 @@ constraint-side_over : (config : ConfigValue) (seed c : ℕ) (side : Side) (repo
     → report.constraint ≡ c
 constraint-side_over config seed c side report is =
     let total = table_total config seed c side in
-    sym (ap (λ (r : TooManyStubs). r.constraint) (reported (is_free config c side) (nat_lt STUBS_MOST total) (record { constraint = c; side = side; total = total }) report is))
+    sym (ap (λ (r : TooManyStubs). r.constraint) (reported (is_free config c side) (nat_lt stubs_most total) (record { constraint = c; side = side; total = total }) report is))
 
 constraint-first_side_over : (config : ConfigValue) (seed c : ℕ) (report : TooManyStubs) → first_side_over config seed c ≡ Some report
     → report.constraint ≡ c

@@ -9,13 +9,13 @@ use Rattle.seeded_draw.specs.Draw.{stream_of}
 use Rattle.gm_config.specs.Config.{ConfigValue, IsConfig, IsConstraint}
 use Rattle.gm_config.specs.declared.degree_specs.DegreeSpec.{DegreeSpec}
 use Rattle.gm_config.specs.declared.degree_specs.DegreeSpec.TheVariants.{Uniform, Bell, Zipf, Table, Free}
-use Rattle.edge_match.specs.declared.sides.TheConstants.{STUBS_MOST}
 use Rattle.edge_match.specs.declared.config_sides.Side.{Side}
 use Rattle.edge_match.specs.declared.config_sides.Side.TheVariants.{Out, In}
 use Rattle.edge_match.specs.declared.errors.TooManyStubs.{TooManyStubs}
 use Rattle.edge_match.specs.ConfigSides.{opposite, no_constraint, constraint_at, is_free_spec, is_free, side_count}
 use Rattle.edge_match.specs.DrawnDegrees.{degree_tag, pick_tag, table_degrees, table_total, side_degrees}
 use Rattle.edge_match.specs.FreeSide.{picked_degree}
+use Rattle.edge_match.specs.StubLimit.{stubs_most}
 use Rattle.edge_match.specs.Limit.{side_over, first_side_over}
 use Rattle.edge_match.proofs.DrawingLemmas.{length-degrees_by}
 
@@ -62,11 +62,11 @@ is_some-false (Some x) none = absurd (cc)
 
 -- a side that is not free has few stubs, where no side of its constraint is over the limit
 pub table_total-within : (config : ConfigValue) (seed c : ℕ) (side : Side) → first_side_over config seed c ≡ None
-    → is_free config c side ≡ false → table_total config seed c side ≤ STUBS_MOST
+    → is_free config c side ≡ false → table_total config seed c side ≤ stubs_most
 table_total-within config seed c Out none drawn =
-    not_above _ STUBS_MOST _ _ drawn (option_or-None (side_over config seed c Out) (side_over config seed c In) none).0
+    not_above _ stubs_most _ _ drawn (option_or-None (side_over config seed c Out) (side_over config seed c In) none).0
 table_total-within config seed c In none drawn =
-    not_above _ STUBS_MOST _ _ drawn (option_or-None (side_over config seed c Out) (side_over config seed c In) none).1
+    not_above _ stubs_most _ _ drawn (option_or-None (side_over config seed c Out) (side_over config seed c In) none).1
 
 pub side_degrees-drawn : (config : ConfigValue) (seed c : ℕ) (side : Side) → is_free config c side ≡ false
     → side_degrees config seed c side ≡ table_degrees config seed c side

@@ -4,6 +4,7 @@ pub mod Conforming
 pub mod FreeSide
 pub mod ConfigSides
 pub mod DrawnDegrees
+pub mod StubLimit
 pub mod Limit
 pub mod ConformingGraph
 pub mod AllEdges

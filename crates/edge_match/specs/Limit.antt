@@ -7,16 +7,16 @@
 use Rattle.std.specs.Prelude.{◌≡◌, ℕ, ◌<◌, nat_lt, if◌then◌else◌, length, Option, Some, None}
 use Rattle.std.specs.Option.{option_or}
 use Rattle.gm_config.specs.Config.{ConfigValue}
-use Rattle.edge_match.specs.declared.sides.TheConstants.{STUBS_MOST}
 use Rattle.edge_match.specs.declared.config_sides.Side.{Side}
 use Rattle.edge_match.specs.declared.config_sides.Side.TheVariants.{Out, In}
 use Rattle.edge_match.specs.declared.errors.TooManyStubs.{TooManyStubs}
+use Rattle.edge_match.specs.StubLimit.{stubs_most}
 use Rattle.edge_match.specs.ConfigSides.{is_free}
 use Rattle.edge_match.specs.DrawnDegrees.{table_total}
 
 -- the report of a total, if it is above the limit
 abbrev pub too_many : ℕ → Side → ℕ → Option TooManyStubs
-too_many c side total = if nat_lt STUBS_MOST total then Some (record { constraint = c; side = side; total = total }) else None
+too_many c side total = if nat_lt stubs_most total then Some (record { constraint = c; side = side; total = total }) else None
 
 -- the report of a side, if it is not free and its total is above the limit
 abbrev pub side_over : ConfigValue → (seed c : ℕ) → Side → Option TooManyStubs

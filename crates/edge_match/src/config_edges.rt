@@ -4,6 +4,7 @@ ghost use Rattle.std.specs.Prelude.{◌≡◌, ℕ, ◌<◌, ◌≤◌, None, So
 ghost use Rattle.seeded_draw.specs.Draw.{stream_of};
 ghost use Rattle.edge_match.specs.ConfigSides.{label_at, side_first, side_count};
 ghost use Rattle.edge_match.specs.DrawnDegrees.{key_tag, side_degrees, node_degrees};
+ghost use Rattle.edge_match.specs.StubLimit.{stubs_most};
 ghost use Rattle.edge_match.specs.Limit.{first_side_over, IsWithinLimit, IsFirstOver};
 ghost use Rattle.edge_match.specs.Conforming.{Conforms};
 ghost use Rattle.edge_match.specs.ConformingGraph.{IsConforming};
@@ -13,7 +14,7 @@ use crate::config_sides::{Side, first_of, is_free, label_of};
 use crate::drawing::{degrees_within_limit, free_degrees};
 use crate::errors::{MatchError, TooManyStubs};
 use crate::matching::matched;
-use crate::sides::{STUBS_MOST, SideStubs, total_of};
+use crate::sides::{SideStubs, total_of};
 use gm_config::Config;
 use graph_text::Edges;
 use seeded_draw::stream;
@@ -70,8 +71,8 @@ fn both_degrees(
     requires { c < length config.now.constraints }
     ensures outs { IfOk result (λ degrees. degrees.0.items ≡ side_degrees config.now seed c Side.Out) }
     ensures ins { IfOk result (λ degrees. degrees.1.items ≡ side_degrees config.now seed c Side.In) }
-    ensures few_outs { IfOk result (λ degrees. sum degrees.0.items ≤ STUBS_MOST) }
-    ensures few_ins { IfOk result (λ degrees. sum degrees.1.items ≤ STUBS_MOST) }
+    ensures few_outs { IfOk result (λ degrees. sum degrees.0.items ≤ stubs_most) }
+    ensures few_ins { IfOk result (λ degrees. sum degrees.1.items ≤ stubs_most) }
     ensures within { OnOk result (first_side_over config.now seed c ≡ None) }
     ensures over { (report : TooManyStubs) → result ≡ Err (MatchError.TooManyStubs report)
         → first_side_over config.now seed c ≡ Some report }
@@ -94,7 +95,7 @@ fn both_degrees(
 fn stubs_at(config: &Config, c: u8, side: Side, degrees: Vec<u32>) -> SideStubs
     requires known { c < length config.now.constraints }
     requires length { length degrees.items ≡ side_count config.now c side }
-    requires few { sum degrees.items ≤ STUBS_MOST }
+    requires few { sum degrees.items ≤ stubs_most }
     ensures first { result.first ≡ side_first config.now c side }
     ensures degrees { result.degrees.items ≡ degrees.items }
     ensures stream { result.stream ≡ stream_of (key_tag side) c 0 }

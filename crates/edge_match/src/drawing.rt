@@ -5,6 +5,7 @@ ghost use Rattle.gm_config.specs.Limits.{nodes_most};
 ghost use Rattle.edge_match.specs.ConfigSides.{opposite, is_free};
 ghost use Rattle.edge_match.specs.declared.errors.TooManyStubs.{TooManyStubs};
 ghost use Rattle.edge_match.specs.DrawnDegrees.{degrees_by, table_degrees, table_total, side_degrees};
+ghost use Rattle.edge_match.specs.StubLimit.{stubs_most};
 ghost use Rattle.edge_match.specs.Limit.{too_many, side_over, first_side_over, IsWithinLimit, IsFirstOver};
 
 use crate::config_sides::{Side, count_of, is_free, spec_of};
@@ -156,7 +157,7 @@ pub(crate) fn degrees_within_limit(
     requires known { c < length config.now.constraints }
     requires drawn { is_free config.now c side ≡ false }
     ensures degrees { IfOk result (λ degrees. degrees.items ≡ side_degrees config.now seed c side) }
-    ensures few { IfOk result (λ degrees. sum degrees.items ≤ STUBS_MOST) }
+    ensures few { IfOk result (λ degrees. sum degrees.items ≤ stubs_most) }
     ensures few_nodes { IfOk result (λ degrees. length degrees.items ≤ nodes_most) }
     ensures within { OnOk result (side_over config.now seed c side ≡ None) }
     ensures over { (report : TooManyStubs) → result ≡ Err (MatchError.TooManyStubs report)

@@ -1,7 +1,7 @@
 //! The sides of a constraint: nodes and their degrees.
 
 ghost use Rattle.std.specs.Prelude.{◌≡◌, ◌+◌, ◌≤◌, ◌^◌, length, sum};
-ghost use Rattle.edge_match.specs.declared.sides.TheConstants.{STUBS_MOST};
+ghost use Rattle.edge_match.specs.StubLimit.{stubs_most};
 
 /// The most stubs that one side may have.
 pub const STUBS_MOST: u64 = 4_194_304;
@@ -16,7 +16,7 @@ pub struct SideStubs {
     /// The stream of random words that the keys of the stubs are drawn from.
     pub stream: u128,
     ghost numbered: { first + length degrees.items ≤ 2 ^ 32 },
-    ghost few: { sum degrees.items ≤ STUBS_MOST },
+    ghost few: { sum degrees.items ≤ stubs_most },
 }
 
 /// The number of stubs that nodes with these degrees have.

@@ -1,14 +1,18 @@
 -- How many calls of a folder it takes to put files into it.
+--   piece_most            the most bytes of a piece
 --   pieces_of n           the pieces that n bytes are written in
 --   file_calls n          the calls for one file of n bytes
 --   all_calls files       the calls for all of these files
 use Rattle.std.specs.Prelude.{ℕ, ◌+◌, ◌-◌, ◌/◌, length, sum_by}
 use Rattle.gm_io.specs.FileList.{FileList}
-use Rattle.gm_files.specs.declared.putting.TheConstants.{PIECE_MOST}
 
--- one piece for each started 65,536 bytes
+-- the most bytes of a piece
+abbrev pub piece_most : ℕ
+piece_most = 65536
+
+-- one piece for each started `piece_most` bytes
 abbrev pub pieces_of : ℕ → ℕ
-pieces_of n = (n + (PIECE_MOST - 1)) / PIECE_MOST
+pieces_of n = (n + (piece_most - 1)) / piece_most
 
 -- one create, one write for each piece, and one finish
 abbrev pub file_calls : ℕ → ℕ

@@ -1,4 +1,5 @@
 pub mod Count
+pub mod Limit
 pub mod FileList
 pub mod Source
 pub mod Folder

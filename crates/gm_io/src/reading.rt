@@ -2,6 +2,7 @@ ghost use Rattle.std.specs.Prelude.{◌≡◌, ℕ, ◌+◌, ◌<◌, ◌≤◌,
 ghost use Rattle.std.specs.Io.{ReadsAtMost};
 ghost use Rattle.std.specs.Io.KnownBytes.{ReadConsumes, IsAtEnd};
 ghost use Rattle.gm_io.specs.Count.{raised, Rose, HasCause};
+ghost use Rattle.gm_io.specs.Limit.{input_limit};
 ghost use Rattle.gm_io.specs.Source.{GivesCount, AreAllLeft};
 
 use crate::writing::Failed;
@@ -66,20 +67,20 @@ impl From<AllocError> for ReadError {
 pub fn read_all<S: Source>(alloc: Global, source: &mut S) -> Result<Vec<u8>, ReadError>
     ensures bytes { IfOk result (λ bytes. AreAllLeft (S.left source.old) bytes.items) }
     ensures to_the_end { OnOk result (IsAtEnd (S.left source.new)) }
-    ensures within { IfOk result (λ bytes. length bytes.items ≤ INPUT_LIMIT) }
+    ensures within { IfOk result (λ bytes. length bytes.items ≤ input_limit) }
     ensures given { IfOk result (λ bytes. S.given source.new ≡ raised (S.given source.old) (length bytes.items)) }
 
     ensures fault { IsErrOf result ReadError.ReadFault → Rose (S.faults source.old) (S.faults source.new) }
-    ensures fault_within { IsErrOf result ReadError.ReadFault → S.given source.new ≤ raised (S.given source.old) INPUT_LIMIT }
+    ensures fault_within { IsErrOf result ReadError.ReadFault → S.given source.new ≤ raised (S.given source.old) input_limit }
 
-    ensures too_long { IsErrOf result ReadError.InputTooLong → raised (S.given source.old) (INPUT_LIMIT + 1) ≤ S.given source.new }
-    ensures too_long_told { IsErrOf result ReadError.InputTooLong → IfSome (S.left source.old) (λ bytes. INPUT_LIMIT < length bytes) }
+    ensures too_long { IsErrOf result ReadError.InputTooLong → raised (S.given source.old) (input_limit + 1) ≤ S.given source.new }
+    ensures too_long_told { IsErrOf result ReadError.InputTooLong → IfSome (S.left source.old) (λ bytes. input_limit < length bytes) }
 
     // Any other answer than `ReadFault` leaves the count of faults.
     ensures no_fault { OnOk result (S.faults source.new ≡ S.faults source.old) }
     ensures too_long_no_fault { IsErrOf result ReadError.InputTooLong → S.faults source.new ≡ S.faults source.old }
     ensures no_memory_no_fault { IsErrOf result ReadError.NoMemory → S.faults source.new ≡ S.faults source.old }
-    ensures calls { S.calls source.new ≤ S.calls source.old + (INPUT_LIMIT + 1) }
+    ensures calls { S.calls source.new ≤ S.calls source.old + (input_limit + 1) }
 {
     let mut bytes = Vec::new(alloc);
     let mut piece = [0u8; 16_384];

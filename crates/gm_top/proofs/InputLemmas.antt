@@ -2,7 +2,7 @@
 use Rattle.std.proofs.Common.{◌≡◌, ◌≢◌, ◌<◌, ◌≤◌, ◌∙◌, ℕ, List, length, refl, ap, sym, subst, inl, inr, Option, Some, None, Result, Ok, Err, arith, IsErrAnd, IfErr}
 use Rattle.std.proofs.lemmas.Option.{same_Some}
 use Rattle.serde_json.specs.Data.{Data}
-use Rattle.gm_io.specs.declared.reading.TheConstants.{INPUT_LIMIT}
+use Rattle.gm_io.specs.Limit.{input_limit}
 use Rattle.gm_io.specs.FileList.{FileList}
 use Rattle.gm_config.specs.Config.{ConfigValue}
 use Rattle.gm_config.specs.Reading.{Reads, answer_of, config_of}
@@ -96,11 +96,11 @@ Refuses-DefinesFiles Translate bytes a files p q = p.1 q.label q.plain
 Refuses-DefinesFiles (Generate seed) bytes a files p q = refused_graph bytes seed a files p q
 
 -- what was made of the bytes answers them
-pub IsAnswerTo-done : (command : Command) (bytes : List ℕ) (files : FileList) → length bytes ≤ INPUT_LIMIT → DefinesFiles command bytes files → IsAnswerTo command bytes outcome.Done
+pub IsAnswerTo-done : (command : Command) (bytes : List ℕ) (files : FileList) → length bytes ≤ input_limit → DefinesFiles command bytes files → IsAnswerTo command bytes outcome.Done
 IsAnswerTo-done command bytes files short defined =
     record { too_long = λ long. absurd (omega arith); refused = λ _ refusal refuses. absurd (Refuses-DefinesFiles command bytes refusal files refuses defined); done = λ _ _ _. refl }
 
-pub IsAnswerTo-refusal : (command : Command) (bytes : List ℕ) (answer : Outcome) → length bytes ≤ INPUT_LIMIT → Refuses command bytes answer → IsAnswerTo command bytes answer
+pub IsAnswerTo-refusal : (command : Command) (bytes : List ℕ) (answer : Outcome) → length bytes ≤ input_limit → Refuses command bytes answer → IsAnswerTo command bytes answer
 IsAnswerTo-refusal command bytes answer short refuses =
     record {
       too_long = λ long. absurd (omega arith);
@@ -108,7 +108,7 @@ IsAnswerTo-refusal command bytes answer short refuses =
       done = λ _ files defined. absurd (Refuses-DefinesFiles command bytes answer files refuses defined);
     }
 
-pub IsAnswerTo-too_long : (command : Command) (bytes : List ℕ) → INPUT_LIMIT < length bytes → IsAnswerTo command bytes outcome.InputTooLong
+pub IsAnswerTo-too_long : (command : Command) (bytes : List ℕ) → input_limit < length bytes → IsAnswerTo command bytes outcome.InputTooLong
 IsAnswerTo-too_long command bytes long =
     record { too_long = λ _. refl; refused = λ short _ _. absurd (omega arith); done = λ short _ _. absurd (omega arith) }
 

@@ -1,7 +1,7 @@
 -- What the folder of a run has gained.
 use Rattle.std.proofs.Common.{◌≡◌, ◌<◌, ◌≤◌, length, ℕ, List, [], ◌∷◌, ◌++◌, refl, ap, subst, Option, Some, None, IfSome, Result, Ok, Err, ◌≢◌, IfErr, IsTrue, false}
 use Rattle.std.specs.Option.{option_map_or}
-use Rattle.gm_io.specs.declared.reading.TheConstants.{INPUT_LIMIT}
+use Rattle.gm_io.specs.Limit.{input_limit}
 use Rattle.gm_io.specs.FileList.{FileList, Told, Gained}
 use Rattle.gm_io.specs.Source.{AreAllLeft}
 use Rattle.graph_text.specs.EdgesText.{IsReading}
@@ -121,7 +121,7 @@ GainsGraph-run words seed command input old new name text piece asked wanted mad
     GainsGraph-Gained seed input old new made_so.0 text made_so.1 made_so.2 gained_so
 
 pub IsAnswerTo-made : (words : List (List ℕ)) (command asked : Command) (input : Option (List ℕ)) (text : List ℕ) → IsCommand command words → IsCommand asked words
-    → HasText input command text → IfSome input (λ bytes. length bytes ≤ INPUT_LIMIT) → IfSome input (λ bytes. IsAnswerTo asked bytes Done)
+    → HasText input command text → IfSome input (λ bytes. length bytes ≤ input_limit) → IfSome input (λ bytes. IsAnswerTo asked bytes Done)
 IsAnswerTo-made words command asked None text is wanted made short = tt
 IsAnswerTo-made words command asked (Some xs) text is wanted made short =
     let of_command : IsAnswerTo command xs Done =
@@ -131,13 +131,13 @@ IsAnswerTo-made words command asked (Some xs) text is wanted made short =
 abbrev IsRefusedBy : Option (List ℕ) → Command → Outcome → Type 0
 IsRefusedBy input command answer = (bytes : List ℕ) × AreAllLeft input bytes × Refuses command bytes answer
 
-of_bytes : (command : Command) (xs : List ℕ) (answer : Outcome) → IsRefusedBy (Some xs) command answer → length xs ≤ INPUT_LIMIT → IsAnswerTo command xs answer
+of_bytes : (command : Command) (xs : List ℕ) (answer : Outcome) → IsRefusedBy (Some xs) command answer → length xs ≤ input_limit → IsAnswerTo command xs answer
 of_bytes command xs answer refused short = IsAnswerTo-refusal command xs answer short (subst (λ (bytes : List ℕ). Refuses command bytes answer) refused.1 refused.2)
 
 -- an answer of an input that neither a fault nor memory explains is the answer to its bytes
 of_input : (command : Command) (xs : List ℕ) (answer : Outcome) → IsTrue (is_of_input answer) → answer ≢ NoMemory → answer ≢ ReadFault
-    → (answer ≡ InputTooLong → INPUT_LIMIT < length xs) → (IsTrue (is_of_bytes answer) → IsRefusedBy (Some xs) command answer)
-    → (IsTrue (is_of_bytes answer) → length xs ≤ INPUT_LIMIT) → IsAnswerTo command xs answer
+    → (answer ≡ InputTooLong → input_limit < length xs) → (IsTrue (is_of_bytes answer) → IsRefusedBy (Some xs) command answer)
+    → (IsTrue (is_of_bytes answer) → length xs ≤ input_limit) → IsAnswerTo command xs answer
 of_input command xs Done is memory fault long refused short = cc
 of_input command xs Usage is memory fault long refused short = cc
 of_input command xs WriteFault is memory fault long refused short = cc
@@ -149,8 +149,8 @@ of_input command xs NotBuilt is memory fault long refused short = of_bytes comma
 of_input command xs (TooManyStubs c side total) is memory fault long refused short = of_bytes command xs (TooManyStubs c side total) (refused refl) (short refl)
 
 pub IsAnswerTo-refused : (words : List (List ℕ)) (command asked : Command) (input : Option (List ℕ)) (answer : Outcome) → IsCommand command words → IsCommand asked words
-    → IsTrue (is_of_input answer) → answer ≢ NoMemory → answer ≢ ReadFault → (answer ≡ InputTooLong → IfSome input (λ bytes. INPUT_LIMIT < length bytes))
-    → (IsTrue (is_of_bytes answer) → IsRefusedBy input command answer) → (IsTrue (is_of_bytes answer) → IfSome input (λ bytes. length bytes ≤ INPUT_LIMIT))
+    → IsTrue (is_of_input answer) → answer ≢ NoMemory → answer ≢ ReadFault → (answer ≡ InputTooLong → IfSome input (λ bytes. input_limit < length bytes))
+    → (IsTrue (is_of_bytes answer) → IsRefusedBy input command answer) → (IsTrue (is_of_bytes answer) → IfSome input (λ bytes. length bytes ≤ input_limit))
     → IfSome input (λ bytes. IsAnswerTo asked bytes answer)
 IsAnswerTo-refused words command asked None answer is_command wanted is memory fault long refused short = tt
 IsAnswerTo-refused words command asked (Some xs) answer is_command wanted is memory fault long refused short =

@@ -4,7 +4,7 @@
 --   Refuses command bytes outcome             the command makes no file of the bytes, for this reason
 --   IsAnswerTo command bytes outcome          the outcome for these bytes where nothing fails
 use Rattle.std.specs.Prelude.{◌≡◌, ◌<◌, ◌≤◌, ◌⊎◌, ℕ, List, [], ◌∷◌, length, Ok, Err}
-use Rattle.gm_io.specs.declared.reading.TheConstants.{INPUT_LIMIT}
+use Rattle.gm_io.specs.Limit.{input_limit}
 use Rattle.gm_io.specs.FileList.{FileList}
 use Rattle.graph_text.specs.declared.graphs.Triple.{Triple}
 use Rattle.graph_text.specs.EdgesText.{IsReading}
@@ -79,6 +79,6 @@ Refuses Translate bytes answer = (answer ≡ outcome.NotBuilt) × ((label : List
 Refuses (Generate seed) bytes answer = RefusesBytes bytes answer ⊎ (RefusesValue bytes answer ⊎ RefusesStubs bytes seed answer)
 
 pub record IsAnswerTo (command : Command) (bytes : List ℕ) (answer : Outcome) : Type 0 where
-  pub too_long : INPUT_LIMIT < length bytes → answer ≡ outcome.InputTooLong
-  pub refused : length bytes ≤ INPUT_LIMIT → (refusal : Outcome) → Refuses command bytes refusal → answer ≡ refusal
-  pub done : length bytes ≤ INPUT_LIMIT → (files : FileList) → DefinesFiles command bytes files → answer ≡ outcome.Done
+  pub too_long : input_limit < length bytes → answer ≡ outcome.InputTooLong
+  pub refused : length bytes ≤ input_limit → (refusal : Outcome) → Refuses command bytes refusal → answer ≡ refusal
+  pub done : length bytes ≤ input_limit → (files : FileList) → DefinesFiles command bytes files → answer ≡ outcome.Done

@@ -9,7 +9,7 @@
 --   GainsGraph seed input old new        the bytes of the gained file are such a text
 use Rattle.std.specs.Prelude.{◌≡◌, ◌≤◌, ℕ, List, [], ◌∷◌, ◌++◌, length, Option, IfSome}
 use Rattle.std.specs.Io.KnownBytes.{IsAtEnd}
-use Rattle.gm_io.specs.declared.reading.TheConstants.{INPUT_LIMIT}
+use Rattle.gm_io.specs.Limit.{input_limit}
 use Rattle.gm_io.specs.Source.{AreAllLeft}
 use Rattle.gm_io.specs.FileList.{FileList, Told, Gained, GainedPart}
 use Rattle.graph_text.specs.declared.graphs.Triple.{Triple}
@@ -26,7 +26,7 @@ use Rattle.gm_top.specs.Rows.{MeansQuery}
 
 pub record IsReadWhole (left left_after : Option (List ℕ)) : Type 0 where
   pub at_end : IsAtEnd left_after
-  pub short : IfSome left (λ bytes. length bytes ≤ INPUT_LIMIT)
+  pub short : IfSome left (λ bytes. length bytes ≤ input_limit)
 
 pub record GainsFiles (words : List (List ℕ)) (input : Option (List ℕ)) (old new : Option FileList) : Type 0 where
   pub command : Command

@@ -1,5 +1,6 @@
 ghost use Rattle.std.specs.Prelude.{◌≡◌, ◌≢◌, ℕ, ◌+◌, ◌<◌, ◌≤◌, ◌⊎◌, ◌↔◌, ◌∷◌, [], map, string_bytes, true, false, List, length, Some, IsTrue, IfOk, IfErr, OnOk, OnErr, IfSome, IsErrOf};
 ghost use Rattle.gm_io.specs.Count.{raised, Rose};
+ghost use Rattle.gm_io.specs.Limit.{input_limit};
 ghost use Rattle.gm_io.specs.Source.{AreAllLeft};
 ghost use Rattle.gm_io.specs.Folder.{KeepsFiles};
 ghost use Rattle.gm_top.specs.declared.commands.Command.{Command};
@@ -14,7 +15,7 @@ use crate::generating::generated;
 use crate::outcomes::Outcome;
 use crate::translating::translated;
 use gm_files::{WriteFault, put_file};
-use gm_io::{Folder, INPUT_LIMIT, Source, read_all};
+use gm_io::{Folder, Source, read_all};
 use std::alloc::Global;
 
 /// Runs the program on the words of its command line, a source for its input and a folder for its files.
@@ -36,9 +37,9 @@ pub fn run<S: Source, F: Folder>(
 
     // Reading. A byte past the limit is given exactly before `InputTooLong`.
     ensures read_fault { result ≡ Outcome.ReadFault → Rose (S.faults source.old) (S.faults source.new) }
-    ensures too_long { result ≡ Outcome.InputTooLong → raised (S.given source.old) (INPUT_LIMIT + 1) ≤ S.given source.new }
-    ensures too_long_told { result ≡ Outcome.InputTooLong → IfSome (S.left source.old) (λ bytes. INPUT_LIMIT < length bytes) }
-    ensures within { result ≢ Outcome.InputTooLong → result ≢ Outcome.NoMemory → S.given source.new ≤ raised (S.given source.old) INPUT_LIMIT }
+    ensures too_long { result ≡ Outcome.InputTooLong → raised (S.given source.old) (input_limit + 1) ≤ S.given source.new }
+    ensures too_long_told { result ≡ Outcome.InputTooLong → IfSome (S.left source.old) (λ bytes. input_limit < length bytes) }
+    ensures within { result ≢ Outcome.InputTooLong → result ≢ Outcome.NoMemory → S.given source.new ≤ raised (S.given source.old) input_limit }
     ensures read_whole { IsTrue (is_after_reading result) → IsReadWhole (S.left source.old) (S.left source.new) }
 
     // What is refused of the input: `Config`, `NotBuilt` and `TooManyStubs`, each by its cause.
@@ -82,9 +83,9 @@ fn made<S: Source>(alloc: Global, command: Command, source: &mut S) -> Result<Ve
     ensures refused { IfErr result (λ outcome. IsTrue (is_of_bytes outcome) → (bytes : List ℕ) × AreAllLeft (S.left source.old) bytes × Refuses command bytes outcome) }
     ensures of_input { IfErr result (λ outcome. IsTrue (is_of_input outcome)) }
     ensures read_fault { IsErrOf result Outcome.ReadFault → Rose (S.faults source.old) (S.faults source.new) }
-    ensures too_long { IsErrOf result Outcome.InputTooLong → raised (S.given source.old) (INPUT_LIMIT + 1) ≤ S.given source.new }
-    ensures too_long_told { IsErrOf result Outcome.InputTooLong → IfSome (S.left source.old) (λ bytes. INPUT_LIMIT < length bytes) }
-    ensures within { ¬ IsErrOf result Outcome.InputTooLong → ¬ IsErrOf result Outcome.NoMemory → S.given source.new ≤ raised (S.given source.old) INPUT_LIMIT }
+    ensures too_long { IsErrOf result Outcome.InputTooLong → raised (S.given source.old) (input_limit + 1) ≤ S.given source.new }
+    ensures too_long_told { IsErrOf result Outcome.InputTooLong → IfSome (S.left source.old) (λ bytes. input_limit < length bytes) }
+    ensures within { ¬ IsErrOf result Outcome.InputTooLong → ¬ IsErrOf result Outcome.NoMemory → S.given source.new ≤ raised (S.given source.old) input_limit }
     ensures read_whole { OnOk result (IsReadWhole (S.left source.old) (S.left source.new)) }
     ensures refused_whole { IfErr result (λ outcome. IsTrue (is_of_bytes outcome) → IsReadWhole (S.left source.old) (S.left source.new)) }
     ensures faults { ¬ IsErrOf result Outcome.ReadFault → S.faults source.new ≡ S.faults source.old }
