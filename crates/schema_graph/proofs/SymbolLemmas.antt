@@ -21,7 +21,7 @@ first_symbols-more n =
     ∙ (flat_map-append both_ways (map (λ x. x) (range_with_len 0 n)) (n ∷ [])
     ∙ ap (λ xs. xs ++ both_ways n) (flat_map-map both_ways (λ x. x) (range_with_len 0 n))))
 
-first_symbols-suc : (n : ℕ) → first_symbols (suc n) ≡ first_symbols n ++ both_ways n
+pub first_symbols-suc : (n : ℕ) → first_symbols (suc n) ≡ first_symbols n ++ both_ways n
 first_symbols-suc n = ap first_symbols (sym (add-one n)) ∙ first_symbols-more n
 
 filter_two : {X : Type 0} (p : X → Bool) (x y : X) (a b : Bool) → p x ≡ a → p y ≡ b
@@ -57,7 +57,7 @@ All-two : {X : Type 0} (P : X → Type 0) (x y : X) → P x → P y → All P (x
 All-two P x y p q = All-cons P x (y ∷ []) p (All-cons P y [] q (All-nil P))
 
 -- the symbols are those of edges
-first_symbols-below : (n : ℕ) → All (λ s. s.edge < n) (first_symbols n)
+pub first_symbols-below : (n : ℕ) → All (λ s. s.edge < n) (first_symbols n)
 first_symbols-below zero = All-nil _
 first_symbols-below (suc n) =
     let below : n < suc n = omega arith in

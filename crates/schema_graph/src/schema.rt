@@ -74,6 +74,13 @@ impl Schema {
         Schema::new(alloc, kinds, edges)
     }
 
+    /// The same schema again.
+    pub fn copy(&self, alloc: Global) -> Result<Schema, AllocError>
+        ensures { IfOk result (λ schema. schema ≡ self.now) }
+    {
+        Schema::new(alloc, self.kinds.to_vec(alloc)?, self.edges.to_vec(alloc)?)
+    }
+
     /// The number of its types, at most [`TYPES_MOST`](crate::TYPES_MOST).
     pub fn kind_count(&self) -> u8
         ensures count { result ≡ length self.now.kinds }

@@ -1,0 +1,76 @@
+-- The test on walks decides whether there is one.
+use Rattle.std.proofs.Common.{◌≡◌, ◌↔◌, ℕ, suc, ◌<◌, ◌==◌, Bool, true, false, if◌then◌else◌, Some, None, List, [], ◌∷◌, length, refl, sym, ap, ◌∙◌, arith}
+use Rattle.std.proofs.lemmas.Bool.{eqb-true, eq-eqb, and_parts, and_from}
+use Rattle.std.proofs.lemmas.Option.{same_Some, none-some}
+use Rattle.std.proofs.lemmas.List.Elements.{All-get_or}
+use Rattle.sel_algebra.specs.declared.vocabulary.Symbol.{Symbol}
+use Rattle.schema_graph.specs.Edge.{start_of, end_of, edge_at, IsSchemaEdge}
+use Rattle.schema_graph.specs.Schema.{SchemaValue, IsSchema}
+use Rattle.schema_graph.specs.Symbols.{first_symbols}
+use Rattle.schema_graph.proofs.EdgeLemmas.{IsSchemaEdge-taken}
+use Rattle.transitions.specs.Runs.{Runs}
+use Rattle.transitions.proofs.RunLemmas.{Decide, run_decided}
+use Rattle.sel_graph.specs.declared.states.State.{State}
+use Rattle.sel_graph.specs.States.{place, carried}
+use Rattle.sel_graph.specs.Walks.{CarriesBySymbol, HasWalk}
+use Rattle.sel_graph.specs.Tests.{carry, can_reach, can_walk}
+use Rattle.sel_graph.proofs.PlaceLemmas.{place-type, place-op, same_state}
+use Rattle.sel_graph.proofs.SymbolLemmas.{first_symbols-contain, first_symbols-edge}
+
+-- what a choice with nothing on the other side gives
+pub if_some : {A : Type 0} (b : Bool) (x u : A) → (if b then Some x else None) ≡ Some u → (b ≡ true) × (x ≡ u)
+if_some true x u is = (refl, same_Some x u is)
+if_some false x u is = absurd (none-some u is)
+
+-- a state has come to the type and has the operator of t
+abbrev CameAs : State → State → Type 0
+CameAs t u = (u.at ≡ t.at) × (u.op ≡ t.op)
+
+carry_decides : (g : SchemaValue) (t : State) → Decide (carry g) (first_symbols (length g.edges)) (λ u. place u == place t) (CarriesBySymbol g) (CameAs t)
+carry_decides g t = record {
+  sound = λ s c u has leads.
+      let (starts, same) = if_some (start_of g.edges c == s.at) (carried g s c) u leads in
+      (first_symbols-edge (length g.edges) c has, eqb-true (start_of g.edges c) s.at starts, same);
+  letter = λ s c u carries. first_symbols-contain (length g.edges) c carries.0;
+  complete = λ s c u carries. rw (eq-eqb (start_of g.edges c) s.at carries.1) (ap Some carries.2);
+  met = λ u same. let e = eqb-true (place u) (place t) same in (place-type u.at t.at u.op t.op e, place-op u.at t.at u.op t.op e);
+  passed = λ u same. eq-eqb (place u) (place t) (rw (same.0, same.1) refl);
+}
+
+-- symbols keep the start
+pub walk_start : (g : SchemaValue) (word : List Symbol) (s t : State) → Runs (CarriesBySymbol g) word s t → t.start ≡ s.start
+walk_start g [] s t same = ap (λ x. x.start) (sym same)
+walk_start g (c ∷ word) s t (u, carries, runs) = walk_start g word u t runs ∙ ap (λ x. x.start) (sym carries.2)
+
+-- the end of a symbol is a type of the schema
+pub end_of-below : (g : SchemaValue) → IsSchema g → (c : Symbol) → c.edge < length g.edges → end_of g.edges c < length g.kinds
+end_of-below g is c known = (IsSchemaEdge-taken g.kinds c.back (edge_at g.edges c.edge) (All-get_or (IsSchemaEdge g.kinds) g.edges c.edge _ known is.each_edge)).target
+
+-- symbols lead among the types of the schema
+walk_stays : (g : SchemaValue) → IsSchema g → (word : List Symbol) (s t : State) → Runs (CarriesBySymbol g) word s t → s.at < length g.kinds → t.at < length g.kinds
+walk_stays g is [] s t same inside = rw (ap (λ x. x.at) (sym same)) inside
+walk_stays g is (c ∷ word) s t (u, carries, runs) inside = walk_stays g is word u t runs (rw (ap (λ x. x.at) (sym carries.2)) (end_of-below g is c carries.0))
+
+-- a walk of some symbols ends at a type of the schema
+pub walk_inside : (g : SchemaValue) → IsSchema g → (n : ℕ) (s t : State) → HasWalk g (suc n) s t → t.at < length g.kinds
+walk_inside g is n s t walk = inside walk.word walk.long walk.runs
+  where
+    inside : (word : List Symbol) → length word ≡ suc n → Runs (CarriesBySymbol g) word s walk.end → t.at < length g.kinds
+    inside [] long runs = absurd (omega (arith, long))
+    inside (c ∷ word) long (u, carries, runs) = rw (ap (λ x. x.at) (sym walk.meets)) (walk_stays g is word u walk.end runs (rw (ap (λ x. x.at) (sym carries.2)) (end_of-below g is c carries.0)))
+
+-- where the starts are the same, the test on places is true just where there is a walk
+pub reach_agrees : (g : SchemaValue) (n : ℕ) (s t : State) → t.start ≡ s.start → (can_reach g n s (place t) ≡ true) ↔ HasWalk g n s t
+reach_agrees g n s t start =
+    let decided = run_decided (carry_decides g t) n s in (
+      λ test. let run = decided.0 test in
+          record { word = run.word; long = run.long; end = run.end; runs = run.runs; meets = same_state run.end t (walk_start g run.word s run.end run.runs ∙ sym start) run.meets.0 run.meets.1 },
+      λ walk. decided.1 (record { word = walk.word; long = walk.long; end = walk.end; runs = walk.runs; meets = (ap (λ x. x.at) walk.meets, ap (λ x. x.op) walk.meets) }),
+    )
+
+pub walk_agrees : (g : SchemaValue) (n : ℕ) (s t : State) → (can_walk g n s t ≡ true) ↔ HasWalk g n s t
+walk_agrees g n s t = (
+  λ test. let (start, reach) = and_parts (t.start == s.start) (can_reach g n s (place t)) test in (reach_agrees g n s t (eqb-true t.start s.start start)).0 reach,
+  λ walk. let start : t.start ≡ s.start = ap (λ x. x.start) (sym walk.meets) ∙ walk_start g walk.word s walk.end walk.runs in
+      and_from (t.start == s.start) (can_reach g n s (place t)) (eq-eqb t.start s.start start) ((reach_agrees g n s t start).1 walk),
+)

@@ -1,0 +1,9 @@
+pub mod States
+pub mod Walks
+pub mod Moves
+pub mod Tests
+pub mod Numbers
+pub mod Tables
+pub mod WalkSteps
+pub mod MoveSteps
+pub mod Laws
