@@ -8,6 +8,7 @@ use Rattle.std.proofs.lemmas.Option.{get_or_from_slice_get}
 use Rattle.std.proofs.lemmas.List.Elements.{All-nil, All-head, All-tail, All-append, All-weaker, filter-append}
 use Rattle.graph_text.specs.declared.graphs.Triple.{Triple}
 use Rattle.gm_config.specs.Config.{ConfigValue, IsConfig}
+use Rattle.gm_config.proofs.ConfigLemmas.{all_true}
 use Rattle.edge_match.specs.declared.config_sides.Side.{Side}
 use Rattle.edge_match.specs.declared.config_sides.Side.TheVariants.{Out, In}
 use Rattle.edge_match.specs.ConfigSides.{label_at, side_first, side_count}
@@ -34,9 +35,6 @@ pub record KeepsConstraint (config : ConfigValue) (seed c : ℕ) (edges : List T
 
 test-between : (first count v : ℕ) → first ≤ v → v < first + count → nat_le first v && nat_lt v (first + count) ≡ true
 test-between first count v low high = grind (arith, nat_tests)
-
-all_true : (a b c : Bool) → a ≡ true → b ≡ true → c ≡ true → a && b && c ≡ true
-all_true a b c p q r = rw (p, q, r) refl
 
 JoinsByRank-end_at : (config : ConfigValue) (seed c : ℕ) (side : Side) (edges : List Triple) → AreEdgesOf config seed c edges
     → JoinsByRank (end_at side) (side_stubs config seed c side) edges

@@ -11,4 +11,3 @@ pub mod SideLemmas
 pub mod StubLemmas
 pub mod TotalLemmas
 pub mod TypeLemmas
-pub mod WordLemmas

@@ -12,7 +12,7 @@ use Rattle.edge_match.specs.ConfigSides.{opposite, is_free, side_count}
 use Rattle.edge_match.specs.DrawnDegrees.{pick_tag, table_degrees, table_total, side_degrees, side_total}
 use Rattle.edge_match.specs.FreeSide.{picked_degree, picked_degrees}
 use Rattle.edge_match.proofs.FreeSideLemmas.{picked_degree-more, test-same, test-other}
-use Rattle.edge_match.proofs.WordLemmas.{word-below}
+use Rattle.seeded_draw.proofs.WordLemmas.{word-below}
 use Rattle.edge_match.proofs.PlaceLemmas.{sum_by-nothing, sum_by-plus, count_by-one}
 
 test-true : (a b : ℕ) → (a == b) ≡ true → a ≡ b

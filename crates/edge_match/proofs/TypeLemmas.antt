@@ -6,6 +6,7 @@ use Rattle.std.proofs.lemmas.List.{length-map, get_or-map}
 use Rattle.std.proofs.lemmas.List.Sums.{sum_by-cons}
 use Rattle.graph_text.specs.declared.graphs.Triple.{Triple}
 use Rattle.gm_config.specs.Config.{ConfigValue, IsConfig, node_counts, ends}
+use Rattle.gm_config.proofs.ConfigLemmas.{three_true}
 use Rattle.edge_match.specs.declared.config_sides.Side.TheVariants.{Out, In}
 use Rattle.edge_match.specs.ConfigSides.{no_constraint, constraint_at, label_at}
 use Rattle.edge_match.specs.ConformingGraph.{is_node_at, is_triple_of}
@@ -40,9 +41,6 @@ same_type counts s t v of_s of_t =
 
 between : (first count v : ℕ) → nat_le first v && nat_lt v (first + count) ≡ true → (first ≤ v) × (v < first + count)
 between first count v test = grind (arith, nat_tests)
-
-three_true : (a b c : Bool) → a && b && c ≡ true → (a ≡ true) × (b ≡ true) × (c ≡ true)
-three_true a b c e = grind arith
 
 test-same : (a b : ℕ) → (a == b) ≡ true → a ≡ b
 test-same a b same = grind (arith, nat_tests)

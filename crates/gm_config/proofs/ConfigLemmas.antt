@@ -177,10 +177,12 @@ same_place name_of xs x a b found_a found_b e =
 
 -- ---- constraints
 
-three_true : (a b c : Bool) → a && b && c ≡ true → (a ≡ true) × (b ≡ true) × (c ≡ true)
+-- three tests that are true together are each true
+pub three_true : (a b c : Bool) → a && b && c ≡ true → (a ≡ true) × (b ≡ true) × (c ≡ true)
 three_true a b c e = grind arith
 
-all_true : (a b c : Bool) → a ≡ true → b ≡ true → c ≡ true → a && b && c ≡ true
+-- three tests that are each true are true together
+pub all_true : (a b c : Bool) → a ≡ true → b ≡ true → c ≡ true → a && b && c ≡ true
 all_true a b c p q r = rw (p, q, r)
 
 known : (d c : Data) → has_known_names d c ≡ true → (is_some (type_place d (source_of c)) ≡ true) × (is_some (label_place d (label_of c)) ≡ true) × (is_some (type_place d (target_of c)) ≡ true)
