@@ -1,6 +1,7 @@
 //! The table of moves between types: whether so many moves lead from one type to another.
 
 ghost use Rattle.std.specs.Prelude.{◌≡◌, ◌*◌, ◌==◌, ◌<◌, ◌≤◌, IfOk, length};
+ghost use Rattle.sel_algebra.specs.declared.TheConstants.{TYPES_MOST};
 ghost use Rattle.sel_graph.specs.Moves.{moves_most};
 ghost use Rattle.sel_graph.specs.MoveSteps.{join_next};
 ghost use Rattle.sel_graph.specs.Tables.{HasJoins};
@@ -16,6 +17,9 @@ use transitions::{Levels, Transitions};
 #[derive(Drop)]
 struct JoinSteps<'a> {
     moves: &'a Moves,
+    types: u8,
+    ghost types_are: { types ≡ length moves.now.schema.kinds },
+    ghost few: { length moves.now.schema.kinds ≤ TYPES_MOST },
 }
 
 impl<'a> Transitions for JoinSteps<'a> {
@@ -30,19 +34,18 @@ impl<'a> Transitions for JoinSteps<'a> {
     ghost meets = { λ s t u. t == u };
 
     fn state_count(&self) -> usize {
-        self.moves.type_count() as usize
+        self.types as usize
     }
 
     fn letter_count(&self) -> usize {
-        10 * self.moves.type_count() as usize
+        10 * self.types as usize
     }
 
     fn goal_count(&self) -> usize {
-        self.moves.type_count() as usize
+        self.types as usize
     }
 
     fn next(&self, state: usize, letter: usize) -> Option<usize> {
-        let _types = self.moves.type_count();
         let m = move_at(letter);
         if self.moves.is_move(state as u8, m) {
             Some(m.to as usize)
@@ -61,7 +64,8 @@ impl<'a> Transitions for JoinSteps<'a> {
 pub(crate) fn join_table(alloc: Global, moves: &Moves) -> Result<Levels, AllocError>
     ensures { IfOk result (HasJoins moves.now) }
 {
-    Levels::of(alloc, &JoinSteps { moves }, MOVES_MOST as usize + 1)
+    let types = moves.type_count();
+    Levels::of(alloc, &JoinSteps { moves, types }, MOVES_MOST as usize + 1)
 }
 
 /// Whether so many moves lead from a type to a type.
