@@ -11,13 +11,13 @@ use Rattle.sel_graph.specs.Tests.{is_move, join_on, joins}
 use Rattle.sel_graph.proofs.WalkLemmas.{if_some}
 
 -- the move with a number leads to a type
-pub move_at-below : (k i : ℕ) → i < 10 * k → i / 10 < k
+pub move_at-below : (k i : ℕ) → i < 10 * k → i / 2 / 5 < k
 move_at-below k i below = omega (arith, below)
 
 -- moves lead among the types
 join_stays : (r : ReachValue) → StaysWithin (length r.schema.kinds) (10 * length r.schema.kinds) (join_next r)
 join_stays r t i u inside below leads =
-    let (move, same) = if_some (is_move r t (move_at i)) (i / 10) u leads in
+    let (move, same) = if_some (is_move r t (move_at i)) (i / 2 / 5) u leads in
     rw (← same) (move_at-below (length r.schema.kinds) i below)
 
 -- moves by their numbers join the same types

@@ -14,7 +14,7 @@ use Rattle.sel_graph.specs.declared.states.Goal.{Goal}
 use Rattle.sel_graph.specs.States.{op_number, place_of, begun, came_to, state_class}
 use Rattle.sel_graph.specs.Walks.{HasWalk}
 use Rattle.sel_graph.specs.Moves.{ReachValue, IsReach, IsPlainMove, IsMove, moved, CarriesByMove, LeadsByMove, Joins, Meets, IsFeasible}
-use Rattle.sel_graph.specs.Numbers.{op_at, move_at, all_moves, class_number}
+use Rattle.sel_graph.specs.Numbers.{op_at, move_of, move_at, all_moves, class_number}
 use Rattle.sel_graph.specs.Tests.{can_reach, numbers_of, is_plain, is_move, move_on, join_on, joins, meets, feasible}
 use Rattle.sel_graph.proofs.PlaceLemmas.{op_number-below, op_at-number, star_number, move_number}
 use Rattle.sel_graph.proofs.WalkLemmas.{if_some, reach_agrees, walk_inside}
@@ -79,14 +79,18 @@ star_number-odd : (b : Bool) (n : ℕ) → ((2 * n + star_number b) % 2 == 1) �
 star_number-odd false n = let even : (2 * n + 0) % 2 ≡ 0 = omega arith in rw even refl
 star_number-odd true n = let odd : (2 * n + 1) % 2 ≡ 1 = omega arith in rw odd refl
 
+-- the move of a kind with the number of a place leads to that place
+pub move_of-place : (m : Move) → move_of m.star (place_of m.to m.value) ≡ m
+move_of-place m =
+    let op = op_number-below m.value in
+    let to : place_of m.to m.value / 5 ≡ m.to = omega (arith, op) in
+    let value : place_of m.to m.value % 5 ≡ op_number m.value = omega (arith, op) in
+    same_move (move_of m.star (place_of m.to m.value)) m refl to (ap op_at value ∙ op_at-number m.value)
+
 pub move_at-number : (m : Move) → move_at (move_number m) ≡ m
 move_at-number m =
-    let op = op_number-below m.value in
-    let star = star_number-below m.star in
-    let half : move_number m ≡ 2 * (5 * m.to + op_number m.value) + star_number m.star = omega arith in
-    let to : move_number m / 10 ≡ m.to = omega (arith, op, star) in
-    let value : move_number m % 10 / 2 ≡ op_number m.value = omega (arith, op, star) in
-    same_move (move_at (move_number m)) m (rw half (star_number-odd m.star (5 * m.to + op_number m.value))) to (ap op_at value ∙ op_at-number m.value)
+    let half : move_number m / 2 ≡ place_of m.to m.value = omega (arith, star_number-below m.star) in
+    rw (half, star_number-odd m.star (place_of m.to m.value)) (move_of-place m)
 
 pub all_moves-contain : (k : ℕ) (m : Move) → m.to < k → Contains (all_moves k) m
 all_moves-contain k m inside =

@@ -39,4 +39,4 @@ star_number false = 0
 star_number true = 1
 
 abbrev pub move_number : Move → ℕ
-move_number m = 10 * m.to + (2 * op_number m.value + star_number m.star)
+move_number m = 2 * place_of m.to m.value + star_number m.star

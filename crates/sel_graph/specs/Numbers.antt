@@ -1,5 +1,6 @@
 -- States, symbols, moves and goals by numbers, as tables have them. k is the number of types.
 --   operators, op_at n         the operators in their order; that with a number
+--   move_of star p             the move of one kind with a number: by type and value
 --   move_at i, all_moves k     the move with a number; the moves to the first k types
 --   class_number c             the number of a class in their order: class_at n is that with a number
 --   symbol_at i                the symbol with a number: by edge, and along before against
@@ -8,7 +9,7 @@
 --   goal_number goal           the number of a goal: by class and second; goal_at n is that with a number
 --   row_number k kind p        the number of a row of walks, by the kind of the start and the place; the kind of
 --                              row q is row_kind k q, and its place row_place k q
-use Rattle.std.specs.Prelude.{ℕ, ◌+◌, ◌-◌, ◌*◌, ◌/◌, ◌%◌, ◌==◌, nat_lt, if◌then◌else◌, List, [], ◌∷◌, map, slice_index_or}
+use Rattle.std.specs.Prelude.{ℕ, ◌+◌, ◌-◌, ◌*◌, ◌/◌, ◌%◌, ◌==◌, nat_lt, Bool, if◌then◌else◌, List, [], ◌∷◌, map, slice_index_or}
 use Rattle.std.specs.List.{range_with_len}
 use Rattle.sel_algebra.specs.declared.vocabulary.Op.{Op}
 use Rattle.sel_algebra.specs.declared.vocabulary.Op.TheVariants.{Equal, Less, Greater, Diamond, Cross}
@@ -30,9 +31,13 @@ operators = Equal ∷ Less ∷ Greater ∷ Diamond ∷ Cross ∷ []
 abbrev pub op_at : ℕ → Op
 op_at n = slice_index_or operators n Equal
 
--- the move with a number: by type, operator, and plain before starred
+-- the move of one kind with a number: by type and value
+abbrev pub move_of : Bool → ℕ → Move
+move_of star p = record { star = star; to = p / 5; value = op_at (p % 5) }
+
+-- the move with a number: by type and value, and plain before starred
 abbrev pub move_at : ℕ → Move
-move_at i = record { star = i % 2 == 1; to = i / 10; value = op_at (i % 10 / 2) }
+move_at i = move_of (i % 2 == 1) (i / 2)
 
 -- the moves to the first k types
 abbrev pub all_moves : ℕ → List Move

@@ -10,7 +10,7 @@ use crate::numbers::place_of;
 use crate::states::{Move, State};
 use gm_config::Range;
 use schema_graph::Schema;
-use sel_algebra::{Op, TYPES_MOST, compose, normal, star};
+use sel_algebra::{Op, TYPES_MOST, star};
 use std::marker::Model;
 use transitions::Levels;
 
@@ -98,12 +98,7 @@ impl Moves {
         requires to { m.to < length self.now.schema.kinds }
         ensures { result ≡ moved self.now.schema state m }
     {
-        let op = compose(state.op, effect(m));
-        State {
-            start: state.start,
-            at: m.to,
-            op: normal(op, self.schema.kind(state.start), self.schema.kind(m.to)),
-        }
+        state.carried_to(&self.schema, m.to, effect(m))
     }
 }
 

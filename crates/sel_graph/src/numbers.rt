@@ -61,11 +61,7 @@ pub(crate) fn move_at(i: usize) -> Move
     requires { i < 2560 }
     ensures { result ≡ move_at i }
 {
-    Move {
-        star: i % 2 == 1,
-        to: (i / 10) as u8,
-        value: op_at(i % 10 / 2),
-    }
+    Move::of_kind(i % 2 == 1, i / 2)
 }
 
 /// The number of a class in their order.

@@ -17,7 +17,7 @@ use crate::walk_table::{can_reach, walk_table};
 use crate::word_table::word_table;
 use gm_config::Range;
 use schema_graph::Schema;
-use sel_algebra::{Op, Symbol, TYPES_MOST, compose, normal};
+use sel_algebra::{Op, Symbol, TYPES_MOST};
 use std::alloc::{AllocError, Global};
 use std::marker::Model;
 use transitions::Levels;
@@ -139,7 +139,8 @@ impl Reach {
         ensures start { result.start < length self.now.schema.kinds }
         ensures here { result.at < length self.now.schema.kinds }
     {
-        carried(self.moves.schema(), state, symbol)
+        let schema = self.moves.schema();
+        state.carried_to(schema, schema.end_of(symbol), schema.op_of(symbol))
     }
 
     /// Whether one move carries a state to a state.
@@ -205,20 +206,4 @@ fn can_walk(walks: &Levels, schema: &Schema, len: u8, from: State, to: State) ->
     ensures { result ≡ can_walk schema.now len from to }
 {
     to.start == from.start && can_reach(walks, schema, len, from, place_of(to.at, to.op))
-}
-
-/// The state after a further symbol.
-fn carried(schema: &Schema, state: State, symbol: Symbol) -> State
-    requires start { state.start < length schema.now.kinds }
-    requires symbol { symbol.edge < length schema.now.edges }
-    ensures state { result ≡ carried schema.now state symbol }
-    ensures here { result.at < length schema.now.kinds }
-{
-    let to = schema.end_of(symbol);
-    let op = compose(state.op, schema.op_of(symbol));
-    State {
-        start: state.start,
-        at: to,
-        op: normal(op, schema.kind(state.start), schema.kind(to)),
-    }
 }

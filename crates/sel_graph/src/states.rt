@@ -1,6 +1,12 @@
 //! States, the moves between them, and goals.
 
-use sel_algebra::{Class, Op};
+ghost use Rattle.std.specs.Prelude.{◌≡◌, ◌<◌, length};
+ghost use Rattle.sel_graph.specs.States.{begun, carried_to};
+ghost use Rattle.sel_graph.specs.Numbers.{move_of};
+
+use crate::numbers::op_at;
+use schema_graph::Schema;
+use sel_algebra::{Class, Op, compose, normal};
 
 /// How a path has come to a type.
 #[derive(Clone, Copy, Debug, PartialEq, Eq)]
@@ -13,6 +19,36 @@ pub struct State {
     pub op: Op,
 }
 
+impl State {
+    /// The state at a type where no path is yet.
+    pub fn begun(t: u8) -> State
+        ensures { result ≡ begun t }
+    {
+        State {
+            start: t,
+            at: t,
+            op: Op::Equal,
+        }
+    }
+
+    /// The state after a further path to a type with an operator.
+    pub(crate) fn carried_to(self, schema: &Schema, to: u8, op: Op) -> State
+        requires start { self.start < length schema.now.kinds }
+        requires to { to < length schema.now.kinds }
+        ensures { result ≡ carried_to schema.now self to op }
+    {
+        State {
+            start: self.start,
+            at: to,
+            op: normal(
+                compose(self.op, op),
+                schema.kind(self.start),
+                schema.kind(to),
+            ),
+        }
+    }
+}
+
 /// One step of a path from a type: words with one value, once or any number of times.
 #[derive(Clone, Copy, Debug, PartialEq, Eq)]
 pub struct Move {
@@ -22,6 +58,20 @@ pub struct Move {
     pub to: u8,
     /// The value of each word.
     pub value: Op,
+}
+
+impl Move {
+    /// The move of one kind, plain or starred, with a number below 1,280: by type and value.
+    pub fn of_kind(star: bool, number: usize) -> Move
+        requires { number < 1280 }
+        ensures { result ≡ move_of star number }
+    {
+        Move {
+            star,
+            to: (number / 5) as u8,
+            value: op_at(number % 5),
+        }
+    }
 }
 
 /// What is asked of the last state of a path.

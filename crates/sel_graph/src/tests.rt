@@ -1,6 +1,5 @@
 ghost use Rattle.std.specs.Prelude.{◌≡◌, ◌≤◌, length, IfOk};
 ghost use Rattle.sel_graph.specs.Moves.{symbols_most};
-ghost use Rattle.sel_graph.specs.States.{begun};
 
 use super::*;
 use gm_config::Range;
@@ -71,13 +70,6 @@ fn walks_of_exactly_so_many_symbols(rt: HostRuntime) -> Result<(), Fail> {
     Ok(())
 }
 
-/// The state at a type where no path is yet.
-fn begun(t: u8) -> State
-    ensures { result ≡ begun t }
-{
-    state(t, t, Equal)
-}
-
 #[test]
 fn moves_of_permitted_lengths(rt: HostRuntime) -> Result<(), Fail> {
     let one = two_types(rt.alloc(), 1, 1)?;
@@ -108,9 +100,9 @@ fn moves_of_permitted_lengths(rt: HostRuntime) -> Result<(), Fail> {
             assert_eq!(rt; two.joins(from, to, moves), by_two, "{from} {to} {moves}");
         }
     }
-    assert_eq!(rt; one.step(begun(0), state(0, 1, Less)), true);
-    assert_eq!(rt; one.step(begun(0), state(0, 1, Cross)), false);
-    assert_eq!(rt; two.step(begun(0), state(0, 1, Less)), false);
+    assert_eq!(rt; one.step(State::begun(0), state(0, 1, Less)), true);
+    assert_eq!(rt; one.step(State::begun(0), state(0, 1, Cross)), false);
+    assert_eq!(rt; two.step(State::begun(0), state(0, 1, Less)), false);
     Ok(())
 }
 
@@ -131,12 +123,12 @@ fn goals_that_can_be_met(rt: HostRuntime) -> Result<(), Fail> {
         if start < 2 && moves <= 8 && second <= 4 {
             let goal = Goal { class, second };
             assert_eq!(rt;
-                one.feasible(begun(start), moves, goal),
+                one.feasible(State::begun(start), moves, goal),
                 by_one,
                 "{start} {moves} {second}"
             );
             assert_eq!(rt;
-                two.feasible(begun(start), moves, goal),
+                two.feasible(State::begun(start), moves, goal),
                 by_two,
                 "{start} {moves} {second}"
             );
@@ -168,11 +160,15 @@ fn stars_of_equal_stay_equal(rt: HostRuntime) -> Result<(), Fail> {
         value: Equal,
     };
     assert!(rt; reach.is_move(0, starred));
-    assert_eq!(rt; reach.moved(begun(0), starred), begun(0));
+    assert_eq!(rt; reach.moved(State::begun(0), starred), State::begun(0));
     for moves in 1..=8 {
         for (class, expected) in [(Constant, false), (Linear, true), (Quadratic, false)] {
             let goal = Goal { class, second: 0 };
-            assert_eq!(rt; reach.feasible(begun(0), moves, goal), expected, "{moves}");
+            assert_eq!(rt;
+                reach.feasible(State::begun(0), moves, goal),
+                expected,
+                "{moves}"
+            );
         }
     }
     Ok(())

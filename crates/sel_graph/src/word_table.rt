@@ -10,7 +10,6 @@ use crate::states::State;
 use crate::walk_table::can_reach;
 use gm_config::Range;
 use schema_graph::Schema;
-use sel_algebra::Op;
 use std::alloc::{AllocError, Global};
 use transitions::{Levels, Transitions};
 
@@ -68,13 +67,8 @@ fn leads_at(schema: &Schema, walks: &Levels, lengths: Range, t: u8, place: usize
     requires place { place < 5 * length schema.now.kinds }
     ensures { (stars : Bool) → result ≡ leads_at record { schema = schema.now; lengths = lengths; stars = stars } t place }
 {
-    let begun = State {
-        start: t,
-        at: t,
-        op: Op::Equal,
-    };
     for count in lengths.least..=lengths.most {
-        if can_reach(walks, schema, count, begun, place) {
+        if can_reach(walks, schema, count, State::begun(t), place) {
             return true;
         }
     }

@@ -4,14 +4,19 @@ ghost use Rattle.std.specs.Prelude.{◌≡◌, ℕ, ◌<◌, Bool, Option};
 
 /// Numbered states, letters and goals: what a letter does with a state, and which states meet a goal.
 pub trait Transitions {
+    /// The number of states.
     ghost states: { Self → ℕ };
 
+    /// The number of letters.
     ghost letters: { Self → ℕ };
 
+    /// The number of goals.
     ghost goals: { Self → ℕ };
 
+    /// The state to which a letter carries a state, if it does.
     ghost next: { Self → ℕ → ℕ → Option ℕ };
 
+    /// Whether a state meets a goal.
     ghost meets: { Self → ℕ → ℕ → Bool };
 
     /// The number of states.

@@ -1,5 +1,5 @@
 -- The laws of picks.
-use Rattle.std.proofs.Common.{◌≡◌, ◌⊎◌, ℕ, zero, suc, ◌*◌, ◌/◌, ◌%◌, ◌^◌, ◌<◌, ◌≤◌, ◌==◌, Bool, true, false, not, ◌&&◌, ◌||◌, Option, Some, List, [], ◌∷◌, length, filter, inl, inr, refl, sym, ap, ◌∙◌, arith}
+use Rattle.std.proofs.Common.{◌≡◌, ◌⊎◌, ℕ, zero, suc, ◌*◌, ◌^◌, ◌<◌, ◌≤◌, ◌==◌, Bool, true, false, not, ◌&&◌, ◌||◌, Option, Some, List, [], ◌∷◌, length, filter, inl, inr, refl, sym, ap, ◌∙◌, arith}
 use Rattle.std.specs.List.{Contains, list_any}
 use Rattle.std.specs.Option.{IfSome}
 use Rattle.std.proofs.lemmas.Bool.{false≢true, eq-eqb, and_parts, and_from, cases_Bool}
@@ -16,15 +16,15 @@ use Rattle.candidates.specs.Picked.{picked}
 use Rattle.candidates.proofs.PickLemmas.{filter_none, picked_some, picked_none_for_all, picked_or_others, numbers_that-at}
 use Rattle.sel_graph.specs.declared.states.State.{State}
 use Rattle.sel_graph.specs.declared.states.Move.{Move}
-use Rattle.sel_graph.specs.States.{op_number, place_of, place, begun, came_to, carried}
+use Rattle.sel_graph.specs.States.{place_of, place, begun, came_to, carried}
 use Rattle.sel_graph.specs.Walks.{CarriesBySymbol, HasWalk}
 use Rattle.sel_graph.specs.Moves.{ReachValue, IsReach, IsMove, moved}
-use Rattle.sel_graph.specs.Numbers.{op_at, all_moves}
+use Rattle.sel_graph.specs.Numbers.{move_of, all_moves}
 use Rattle.sel_graph.specs.Tests.{carry, can_reach, numbers_of, is_plain, is_move, move_on, join_on, joins, meets, feasible}
-use Rattle.sel_graph.proofs.PlaceLemmas.{op_number-below, op_at-number, place-below, same_state}
+use Rattle.sel_graph.proofs.PlaceLemmas.{place-below, same_state}
 use Rattle.sel_graph.proofs.WalkLemmas.{if_some, walk_start}
-use Rattle.sel_graph.proofs.MoveLemmas.{move_agrees, move_inside}
-use Rattle.walk_pick.specs.Candidates.{types_of, is_live_start, start_candidates, count_candidates, move_of, moves_of, live_moves, keeps_goal, keeps_end, has_length, keeps_walk}
+use Rattle.sel_graph.proofs.MoveLemmas.{move_of-place, move_agrees, move_inside}
+use Rattle.walk_pick.specs.Candidates.{types_of, is_live_start, start_candidates, count_candidates, moves_of, live_moves, keeps_goal, keeps_end, has_length, keeps_walk}
 use Rattle.walk_pick.specs.Laws.{HasSymbol, CountsAreAlike, StartsNeverRunOut, MovesNeverRunOut, LinksNeverRunOut, ArmsNeverRunOut, MovesHaveSymbols, LengthsNeverRunOut, SymbolsNeverRunOut}
 
 -- ---- numbers of conjuncts, and starts
@@ -47,15 +47,6 @@ starts_never_run_out r goal n w word any =
     (t, is, here.0, live)
 
 -- ---- moves of a kind
-
--- the number of a move among those of its kind is the place of its value
-move_of-place : (m : Move) → move_of m.star (place_of m.to m.value) ≡ m
-move_of-place m =
-    let op = op_number-below m.value in
-    let to : place_of m.to m.value / 5 ≡ m.to = omega (arith, op) in
-    let value : place_of m.to m.value % 5 ≡ op_number m.value = omega (arith, op) in
-    let same : op_at (place_of m.to m.value % 5) ≡ m.value = ap op_at value ∙ op_at-number m.value in
-    λ i. record { star = m.star; to = to i; value = same i }
 
 -- a move to a type stands among those of its kind
 moves_of-contain : (k : ℕ) (m : Move) → m.to < k → Contains (moves_of k m.star) m

@@ -6,12 +6,12 @@ ghost use Rattle.candidates.specs.Picked.{picked, numbers_that};
 ghost use Rattle.sel_algebra.specs.declared.TheConstants.{TYPES_MOST};
 ghost use Rattle.skeletons.specs.Skeleton.{conjuncts_most, HasSkeleton, spine_of};
 ghost use Rattle.sel_graph.specs.Moves.{moves_most, second_most};
-ghost use Rattle.sel_graph.specs.States.{begun};
 ghost use Rattle.walk_pick.specs.Candidates.{types_of, is_live_start, start_candidates, goal_of, permits, is_live_count, count_candidates};
 
+use crate::ranges::{count_of, from_least};
 use candidates::{Candidates, pick_among};
 use gm_config::Range;
-use sel_algebra::{Class, Op, Shape};
+use sel_algebra::{Class, Shape};
 use sel_graph::{Goal, Reach, State};
 use skeletons::Skeleton;
 
@@ -38,7 +38,8 @@ impl<'a> Candidates for Starts<'a> {
     }
 
     fn is_live(&self, t: u32) -> bool {
-        self.reach.feasible(begun(t as u8), self.moves, self.goal)
+        self.reach
+            .feasible(State::begun(t as u8), self.moves, self.goal)
     }
 }
 
@@ -59,7 +60,7 @@ impl<'a> Candidates for Counts<'a> {
     ghost range = { λ s. s.range.most + 1 - s.range.least };
 
     fn numbers(&self) -> u32 {
-        (self.range.most as u32 + 1).saturating_sub(self.range.least as u32)
+        count_of(self.range)
     }
 
     fn is_live(&self, i: u32) -> bool {
@@ -144,26 +145,4 @@ fn has_start(reach: &Reach, shape: Shape, class: Class, count: u8) -> bool
         second: skeleton.second(),
     };
     pick_start(reach, skeleton.spine(), goal, 0).is_some()
-}
-
-/// The state at a type where no path is yet.
-pub(crate) fn begun(t: u8) -> State
-    ensures { result ≡ begun t }
-{
-    State {
-        start: t,
-        at: t,
-        op: Op::Equal,
-    }
-}
-
-/// The number that was picked among those from the least on.
-pub(crate) fn from_least(least: u8, picked: Option<u32>) -> Option<u8>
-    requires { IfSome picked (λ i. least + i < 256) }
-    ensures { result ≡ option_map (λ i. least + i) picked }
-{
-    match picked {
-        Some(i) => Some(least + i as u8),
-        None => None,
-    }
 }

@@ -6,6 +6,7 @@
 mod counting;
 pub mod laws;
 mod moving;
+mod ranges;
 #[cfg(test)]
 mod tests;
 mod walking;

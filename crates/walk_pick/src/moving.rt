@@ -5,11 +5,10 @@ ghost use Rattle.candidates.specs.Picked.{picked, numbers_that};
 ghost use Rattle.sel_graph.specs.declared.states.Move.{Move};
 ghost use Rattle.sel_graph.specs.Moves.{moves_most, second_most};
 ghost use Rattle.sel_graph.specs.Tests.{is_move};
-ghost use Rattle.sel_graph.specs.Numbers.{op_at};
-ghost use Rattle.walk_pick.specs.Candidates.{move_of, moves_of, live_moves, keeps_goal, move_candidates, keeps_end, link_candidates, arm_candidates};
+ghost use Rattle.sel_graph.specs.Numbers.{move_of};
+ghost use Rattle.walk_pick.specs.Candidates.{moves_of, live_moves, keeps_goal, move_candidates, keeps_end, link_candidates, arm_candidates};
 
 use candidates::{Candidates, pick_among};
-use sel_algebra::Op;
 use sel_graph::{Goal, Move, Reach, State};
 
 /// A test on moves to the types of a schema.
@@ -49,19 +48,7 @@ impl<'a, T: MoveTest> Candidates for OfKind<'a, T> {
     }
 
     fn is_live(&self, i: u32) -> bool {
-        self.test.passes(move_of(self.star, i))
-    }
-}
-
-/// The move of one kind with a number: by type and value.
-fn move_of(star: bool, i: u32) -> Move
-    requires { i < 1280 }
-    ensures { result ≡ move_of star i }
-{
-    Move {
-        star,
-        to: (i / 5) as u8,
-        value: [Op::Equal, Op::Less, Op::Greater, Op::Diamond, Op::Cross][(i % 5) as usize],
+        self.test.passes(Move::of_kind(self.star, i as usize))
     }
 }
 
@@ -76,7 +63,7 @@ fn pick_kind<T: MoveTest>(test: &T, star: bool, w: u64) -> Option<Move>
         star,
     };
     let i = pick_among(&kind, w)?;
-    Some(move_of(star, i))
+    Some(Move::of_kind(star, i as usize))
 }
 
 /// A move of one kind that passes a test, or where there is none, one of the other kind.

@@ -1,6 +1,5 @@
 ghost use Rattle.std.specs.Prelude.{◌≡◌, ◌≤◌, length, IfOk};
 ghost use Rattle.sel_graph.specs.Moves.{symbols_most};
-ghost use Rattle.sel_graph.specs.States.{begun};
 
 use super::*;
 use gm_config::Range;
@@ -60,17 +59,6 @@ fn reach_of(
     ensures { IfOk result (λ reach. reach.schema ≡ schema.now) }
 {
     Reach::build(alloc, schema, Range { least, most }, stars)
-}
-
-/// The state of a path to a type.
-fn begun(t: u8) -> State
-    ensures { result ≡ begun t }
-{
-    State {
-        start: t,
-        at: t,
-        op: Equal,
-    }
 }
 
 /// The number of conjuncts that a word picks from 1 to `most`, by words of one symbol or by words of two.
@@ -159,8 +147,11 @@ fn moves_of_either_kind(rt: HostRuntime) -> Result<(), Fail> {
     };
     // no word of one symbol leads from a type to itself, so none may be starred
     for (star, w) in [(false, 0), (true, 0), (false, u64::MAX), (true, u64::MAX)] {
-        assert_eq!(rt; pick_move(&reach, begun(0), 0, goal, star, w), Some(over));
-        assert_eq!(rt; pick_move(&reach, begun(0), 1, goal, star, w), None);
+        assert_eq!(rt;
+            pick_move(&reach, State::begun(0), 0, goal, star, w),
+            Some(over)
+        );
+        assert_eq!(rt; pick_move(&reach, State::begun(0), 1, goal, star, w), None);
         assert_eq!(rt; pick_link(&reach, 0, 1, 0, star, w), Some(over));
         assert_eq!(rt; pick_link(&reach, 0, 1, 1, star, w), None);
     }
@@ -225,10 +216,13 @@ fn symbols(rt: HostRuntime) -> Result<(), Fail> {
     for (w, back) in [(WORDS[0], false), (WORDS[1], true), (WORDS[2], true)] {
         let symbol = Symbol { edge: 0, back };
         assert_eq!(rt;
-            pick_symbol(&reach, &schema, begun(0), begun(0), 15, w),
+            pick_symbol(&reach, &schema, State::begun(0), State::begun(0), 15, w),
             Some(symbol)
         );
-        assert_eq!(rt; pick_symbol(&reach, &schema, begun(0), never, 15, w), None);
+        assert_eq!(rt;
+            pick_symbol(&reach, &schema, State::begun(0), never, 15, w),
+            None
+        );
     }
     Ok(())
 }

@@ -7,7 +7,7 @@ ghost use Rattle.sel_graph.specs.Moves.{symbols_most};
 ghost use Rattle.sel_graph.specs.States.{came_to};
 ghost use Rattle.walk_pick.specs.Candidates.{has_length, length_candidates, keeps_walk, nth_symbol, symbol_candidates};
 
-use crate::counting::{begun, from_least};
+use crate::ranges::{count_of, from_least};
 use candidates::{Candidates, pick_among};
 use gm_config::Range;
 use schema_graph::Schema;
@@ -32,7 +32,7 @@ impl<'a> Candidates for Lengths<'a> {
     ghost range = { λ s. s.range.most + 1 - s.range.least };
 
     fn numbers(&self) -> u32 {
-        (self.range.most as u32 + 1).saturating_sub(self.range.least as u32)
+        count_of(self.range)
     }
 
     fn is_live(&self, i: u32) -> bool {
@@ -42,7 +42,7 @@ impl<'a> Candidates for Lengths<'a> {
             op: self.end.value,
         };
         self.reach
-            .reaches(begun(self.from), to, self.range.least + i as u8)
+            .reaches(State::begun(self.from), to, self.range.least + i as u8)
     }
 }
 

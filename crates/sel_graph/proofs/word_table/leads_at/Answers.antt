@@ -12,7 +12,7 @@ returns-then-can_reach c stars =
     let test : ℕ → Bool = λ n. can_reach c.args.schema.now n (begun c.args.t) c.args.place in
     let count = c.loop-count.count in
     let (i, inside, is) = range_member c.args.lengths count c.loop-count.auto.count c.loop-count-test.true in
-    sym (list_any-from_Any test (numbers_of c.args.lengths) (i, count, inside, is, sym c.can_reach.ensures ∙ c.if-can_reach.true))
+    sym (list_any-from_Any test (numbers_of c.args.lengths) (i, count, inside, is, sym (rw c.begun.ensures at c.can_reach.ensures) ∙ c.if-can_reach.true))
 
 pub returns-else-can_reach : goal.returns-else-can_reach
 returns-else-can_reach c stars =
@@ -22,6 +22,6 @@ returns-else-can_reach c stars =
     let fails : (n : ℕ) → least ≤ n → n < least + (c.args.lengths.most + 1 - least) → test n ≡ false = λ n from below.
     elim (cases_lt n c.loop-count.count) [
       | inl before ↦ c.loop-count.invariant n from before
-      | inr after ↦ let same : n ≡ c.loop-count.count = omega (arith, last, below, after) in rw same (sym c.can_reach.ensures ∙ c.if-can_reach.false)
+      | inr after ↦ let same : n ≡ c.loop-count.count = omega (arith, last, below, after) in rw same (sym (rw c.begun.ensures at c.can_reach.ensures) ∙ c.if-can_reach.false)
     ] in
     sym (list_any_range_none test least (c.args.lengths.most + 1 - least) fails)
