@@ -7,10 +7,10 @@ ghost use Rattle.std.specs.Str.Parse.{digits_value};
 ghost use Rattle.gm_text.specs.Decimal.{is_canonical, IsCanonical, IfValue};
 
 use itoa::Buffer;
-use std::alloc::AllocError;
+use std::alloc::{AllocError, Global};
 
 /// Appends the decimal of a number, with no leading zero. A refusal appends nothing.
-pub fn write_decimal(out: &mut Vec<u8>, n: u64) -> Result<(), AllocError>
+pub fn write_decimal(_alloc: Global, out: &mut Vec<u8>, n: u64) -> Result<(), AllocError>
     ensures ok { OnOk result (out.new.items ≡ out.old.items ++ decimal n) }
     ensures err { OnErr result (out.new.items ≡ out.old.items) }
 {
@@ -32,6 +32,7 @@ pub enum Decimal {
 pub fn read_decimal(word: &[u8]) -> Decimal
     ensures no { (result ≡ Decimal.No) ↔ (is_canonical word.now ≡ false) }
     ensures value { IfValue result (λ n. word.now ≡ decimal n) }
+    ensures fits { IfValue result (λ n. n < 2 ^ 64) }
     ensures every_value { (n : ℕ) → n < 2 ^ 64 → word.now ≡ decimal n → result ≡ Decimal.Value n }
     ensures big { (result ≡ Decimal.Big) ↔ (IsCanonical word.now × (2 ^ 64 ≤ digits_value 10 word.now)) }
 {

@@ -6,8 +6,6 @@ pub mod laws;
 mod lists;
 mod naming;
 mod reading;
-#[cfg(test)]
-mod tests;
 
 pub use decimals::{Decimal, read_decimal, write_decimal};
 pub use lists::{Arena, Items, Span};
