@@ -14,8 +14,6 @@ mod mem_folders;
 mod mem_sources;
 mod reading;
 mod slice_sources;
-#[cfg(test)]
-mod tests;
 mod writing;
 
 pub use adapters::{DirFolder, StdSource};
