@@ -4,7 +4,7 @@ use Rattle.std.proofs.lemmas.Bool.{cases_lt}
 use Rattle.std.proofs.lemmas.List.{get_or_past}
 use Rattle.std.proofs.lemmas.List.Sums.{sum_by_more, sum_by-take-le}
 use Rattle.std.specs.List.{position_or_len}
-use Rattle.gm_config.specs.DegreeSpec.{degree_most}
+use Rattle.gm_config.specs.Limits.{degree_most}
 use Rattle.degree_table.specs.DegreeTable.{WeightedDegrees, weight_in, degree_of, HoldsPick, IsGreatest, IsTable}
 use Rattle.degree_table.proofs.SumLemmas.{last-cumulative, sum-take-le, Lies, Lies-position_or_len}
 

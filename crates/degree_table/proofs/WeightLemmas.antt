@@ -8,7 +8,8 @@ use Rattle.std.proofs.lemmas.List.Elements.{All-get_or, All-map}
 use Rattle.std.proofs.lemmas.List.FromFn.{length-map-range_with_len, fill_by_all}
 use Rattle.std.proofs.lemmas.List.Sums.{sum_by-le}
 use Rattle.std.specs.Int.{abs_diff}
-use Rattle.gm_config.specs.DegreeSpec.{degree_most, exponent_most, weight_most, IsDegreeSpec}
+use Rattle.gm_config.specs.Limits.{degree_most, exponent_most, weight_most}
+use Rattle.gm_config.specs.DegreeSpec.{IsDegreeSpec}
 use Rattle.gm_config.specs.declared.degree_specs.DegreeSpec.{DegreeSpec}
 use Rattle.gm_config.specs.declared.degree_specs.DegreeSpec.TheVariants.{Uniform, Bell, Zipf, Table, Free}
 use Rattle.degree_table.specs.DegreeTable.{zipf_scale, zipf_most, weight_of, least_of, end_of, weights_of, cumulative, IsTable}

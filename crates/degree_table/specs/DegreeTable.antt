@@ -11,7 +11,7 @@
 use Rattle.std.specs.Prelude.{◌≡◌, ℕ, ◌+◌, ◌-◌, ◌/◌, ◌^◌, ◌<◌, ◌≤◌, min, max, nat_lt, sum, List, map, take, length, slice_index, if◌then◌else◌, Option, unwrap_or}
 use Rattle.std.specs.Int.{abs_diff}
 use Rattle.std.specs.List.{range_with_len, position_or_len}
-use Rattle.gm_config.specs.DegreeSpec.{degree_most}
+use Rattle.gm_config.specs.Limits.{degree_most}
 use Rattle.gm_config.specs.declared.degree_specs.DegreeSpec.{DegreeSpec}
 use Rattle.gm_config.specs.declared.degree_specs.DegreeSpec.TheVariants.{Uniform, Bell, Zipf, Table, Free}
 

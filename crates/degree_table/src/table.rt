@@ -4,7 +4,8 @@ ghost use Rattle.std.specs.Prelude.{◌≡◌, ◌≢◌, ℕ, ◌<◌, ◌≤�
 ghost use Rattle.std.specs.List.{position_or_len};
 ghost use Rattle.std.specs.List.Sorted.{IsNonDecreasing};
 ghost use Rattle.seeded_draw.specs.Draw.{pick_of};
-ghost use Rattle.gm_config.specs.DegreeSpec.{IsDegreeSpec, degree_most};
+ghost use Rattle.gm_config.specs.Limits.{degree_most};
+ghost use Rattle.gm_config.specs.DegreeSpec.{IsDegreeSpec};
 ghost use Rattle.gm_config.specs.declared.degree_specs.DegreeSpec.TheVariants.{Free};
 ghost use Rattle.degree_table.specs.DegreeTable.{table_of, degree_of, cumulative, HoldsPick, IsGreatest};
 

@@ -2,7 +2,8 @@
 
 ghost use Rattle.std.specs.Prelude.{◌≡◌, ℕ, ◌+◌, ◌-◌, ◌/◌, ◌^◌, ◌<◌, ◌≤◌, sum, IfOk};
 ghost use Rattle.std.specs.Int.{abs_diff};
-ghost use Rattle.gm_config.specs.DegreeSpec.{IsDegreeSpec, degree_most, exponent_most};
+ghost use Rattle.gm_config.specs.Limits.{degree_most, exponent_most};
+ghost use Rattle.gm_config.specs.DegreeSpec.{IsDegreeSpec};
 ghost use Rattle.degree_table.specs.DegreeTable.{zipf_scale, zipf_most, weight_of, least_of, end_of, weights_of, cumulative};
 
 use gm_config::{DEGREE_MOST, DegreeSpec};

@@ -3,7 +3,5 @@
 #![tactic(auto)]
 
 mod draw;
-#[cfg(test)]
-mod tests;
 
 pub use draw::{Draws, pick, stream, word_at};
