@@ -1,5 +1,5 @@
 -- The order of entries, and what joins and compositions keep.
-use Rattle.std.proofs.Common.{◌≡◌, ◌<◌, ℕ, zero, suc, Option, Some, None, inl, inr, refl, arith}
+use Rattle.std.proofs.Common.{◌≡◌, ◌<◌, ℕ, zero, suc, Option, Some, None, inl, inr, refl, ap, arith}
 use Rattle.std.proofs.Math.Nat.{eq-or-lt_of_le}
 use Rattle.sel_algebra.specs.declared.vocabulary.Op.{Op}
 use Rattle.sel_algebra.specs.declared.vocabulary.Kind.{Kind}
@@ -11,6 +11,9 @@ AtMost-refl a = grind arith
 
 AtMost-trans : (a b c : Op) → AtMost a b → AtMost b c → AtMost a c
 AtMost-trans a b c p q = grind arith
+
+AtMost-antisym : (a b : Op) → AtMost a b → AtMost b a → a ≡ b
+AtMost-antisym a b p q = grind arith
 
 AtMost-join_left : (a b : Op) → AtMost a (join_of a b)
 AtMost-join_left a b = grind arith
@@ -39,6 +42,12 @@ EntryAtMost-trans None b c p q = tt
 EntryAtMost-trans (Some a) None c p q = elim p [ ]
 EntryAtMost-trans (Some a) (Some b) None p q = elim q [ ]
 EntryAtMost-trans (Some a) (Some b) (Some c) p q = AtMost-trans a b c p q
+
+pub EntryAtMost-antisym : (a b : Option Op) → EntryAtMost a b → EntryAtMost b a → a ≡ b
+EntryAtMost-antisym None None p q = refl
+EntryAtMost-antisym None (Some b) p q = elim q [ ]
+EntryAtMost-antisym (Some a) None p q = elim p [ ]
+EntryAtMost-antisym (Some a) (Some b) p q = ap Some (AtMost-antisym a b p q)
 
 pub EntryAtMost-joined_left : (a b : Option Op) → EntryAtMost a (joined a b)
 EntryAtMost-joined_left None b = tt

@@ -4,3 +4,4 @@ pub mod RowLemmas
 pub mod RankLemmas
 pub mod ClosureLemmas
 pub mod GreatestLemmas
+pub mod PathLemmas

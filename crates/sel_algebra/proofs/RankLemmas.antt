@@ -1,5 +1,5 @@
 -- The measure of the rounds: how far entries may still rise.
-use Rattle.std.proofs.Common.{◌≡◌, ◌≢◌, ◌+◌, ◌-◌, ◌*◌, ◌<◌, ◌≤◌, ℕ, suc, Option, Some, None, List, [], ◌∷◌, length, get_or, ◌⊎◌, inl, inr, refl, ap, arith}
+use Rattle.std.proofs.Common.{◌≡◌, ◌+◌, ◌-◌, ◌*◌, ◌<◌, ◌≤◌, ℕ, suc, Option, Some, None, List, [], ◌∷◌, length, get_or, ◌⊎◌, inl, inr, refl, ap, arith}
 use Rattle.sel_algebra.specs.declared.vocabulary.Op.{Op}
 use Rattle.sel_algebra.specs.Operators.{AtMost, column}
 use Rattle.sel_algebra.specs.Entries.{EntryAtMost}
@@ -38,7 +38,7 @@ rank-most : (a : Option Op) → rank a ≤ 4
 rank-most None = omega arith
 rank-most (Some a) = rank_op-most a
 
-ranks-most : (xs : List (Option Op)) → ranks xs ≤ 4 * length xs
+pub ranks-most : (xs : List (Option Op)) → ranks xs ≤ 4 * length xs
 ranks-most [] = omega arith
 ranks-most (x ∷ xs) = omega (arith, rank-most x, ranks-most xs)
 
@@ -51,16 +51,15 @@ ranks-le (x ∷ xs) (y ∷ ys) e h =
     let tails = ranks-le xs ys (omega arith) (λ p. h (suc p)) in
     elim (rank-cases x y (h 0)) [ inl same ↦ omega (arith, ap rank same) | inr lt ↦ omega arith ]
 
--- and where they differ, they have lower ranks
-ranks-lt : (xs ys : List (Option Op)) → length xs ≡ length ys → ((p : ℕ) → EntryAtMost (get_or xs p None) (get_or ys p None)) → ys ≢ xs → ranks xs < ranks ys
-ranks-lt [] [] e h differ = absurd (differ refl)
-ranks-lt [] (y ∷ ys) e h differ = absurd (omega arith)
-ranks-lt (x ∷ xs) [] e h differ = absurd (omega arith)
-ranks-lt (x ∷ xs) (y ∷ ys) e h differ = elim (rank-cases x y (h 0)) [
-  | inl same ↦ let tails = ranks-lt xs ys (omega arith) (λ p. h (suc p)) (λ t. differ (cc)) in omega (arith, ap rank same)
-  | inr lt ↦ let tails = ranks-le xs ys (omega arith) (λ p. h (suc p)) in omega arith
+-- and are the same where they have no lower ones
+pub same_or_higher : (xs ys : List (Option Op)) → length xs ≡ length ys → ((p : ℕ) → EntryAtMost (get_or xs p None) (get_or ys p None)) → (xs ≡ ys) ⊎ (ranks xs < ranks ys)
+same_or_higher [] [] e h = inl refl
+same_or_higher [] (y ∷ ys) e h = absurd (omega arith)
+same_or_higher (x ∷ xs) [] e h = absurd (omega arith)
+same_or_higher (x ∷ xs) (y ∷ ys) e h = elim (rank-cases x y (h 0)) [
+  | inl same ↦ elim (same_or_higher xs ys (omega arith) (λ p. h (suc p))) [
+    | inl tails ↦ inl (λ i. same i ∷ tails i)
+    | inr lt ↦ inr (omega (arith, ap rank same, lt))
+  ]
+  | inr lt ↦ let tails = ranks-le xs ys (omega arith) (λ p. h (suc p)) in inr (omega (arith, lt, tails))
 ]
-
--- where entries rise, less room is left
-pub room-lt : (xs ys : List (Option Op)) → length xs ≡ length ys → ((p : ℕ) → EntryAtMost (get_or xs p None) (get_or ys p None)) → ys ≢ xs → room ys < room xs
-room-lt xs ys e h differ = omega (arith, ranks-lt xs ys e h differ, ranks-most ys)

@@ -9,13 +9,12 @@ use Rattle.std.proofs.Math.Seq.{take-append_seam}
 use Rattle.std.specs.List.{range_with_len}
 use Rattle.std.proofs.lemmas.List.FromFn.{length-map-range_with_len, map-range_with_len_more, get_or-map-range_with_len}
 use Rattle.std.proofs.lemmas.Nat.{div-mul-add, mod-mul-add, mul-add-lt, div-add-mod'}
-use Rattle.sel_algebra.specs.declared.TheConstants.{TYPES_MOST}
 use Rattle.sel_algebra.specs.declared.vocabulary.Op.{Op}
 use Rattle.sel_algebra.specs.declared.vocabulary.Op.TheVariants.{Equal}
 use Rattle.sel_algebra.specs.declared.vocabulary.Kind.{Kind}
-use Rattle.sel_algebra.specs.Entries.{IsNormalEntry}
+use Rattle.sel_algebra.specs.Entries.{joined, IsNormalEntry}
 use Rattle.sel_algebra.specs.Operators.{normal_of}
-use Rattle.sel_algebra.specs.Table.{Table, kind_at, entry, EachPair, first_cells, row_of, table_of, IsMatrix, one_at, zero_of, one_of, laid_out, SetsEntry, through, product_at, times_of, sum_at, plus_of}
+use Rattle.sel_algebra.specs.Table.{types_most, Table, kind_at, entry, EachPair, first_cells, row_of, table_of, IsMatrix, one_at, zero_of, one_of, laid_out, SetsEntry, through, product_at, times_of, sum_at, plus_of}
 use Rattle.sel_algebra.proofs.EntryLemmas.{IsNormal-normal_of, IsNormalEntry-joined, IsNormalEntry-composed, IsNormalEntry-join_below}
 
 -- a place among n * n is in one of n rows and one of n columns
@@ -32,12 +31,20 @@ entry-table_of kinds f i j p q =
     get_or-map-range_with_len (λ r. f (r / n) (r % n)) 0 (n * n) (i * n + j) (i * n + j) None (mul-add-lt i n j n p q) (omega arith)
     ∙ (ap (λ r. f r ((i * n + j) % n)) (div-mul-add i n j q) ∙ ap (λ r. f i r) (mod-mul-add i n j q))
 
+-- and there is one for each two types
+pub whole-table_of : (kinds : List Kind) (f : ℕ → ℕ → Option Op) → length (table_of kinds f).cells ≡ length kinds * length kinds
+whole-table_of kinds f = length-map-range_with_len _ 0 (length kinds * length kinds)
+
+-- each entry of a join joins the entries of its parts
+pub entry-plus_of : (a b : Table) (i j : ℕ) → i < length a.kinds → j < length a.kinds → entry (plus_of a b) i j ≡ joined (entry a i j) (entry b i j)
+entry-plus_of a b i j p q = entry-table_of a.kinds (sum_at a b) i j p q
+
 -- a table of normal entries is a matrix
-IsMatrix-table_of : (kinds : List Kind) (f : ℕ → ℕ → Option Op) → length kinds ≤ TYPES_MOST
+IsMatrix-table_of : (kinds : List Kind) (f : ℕ → ℕ → Option Op) → length kinds ≤ types_most
     → EachPair kinds (λ i j. IsNormalEntry (f i j) (kind_at kinds i) (kind_at kinds j)) → IsMatrix (table_of kinds f)
 IsMatrix-table_of kinds f few normal = record {
   few = few;
-  whole = length-map-range_with_len _ 0 (length kinds * length kinds);
+  whole = whole-table_of kinds f;
   normal = λ i j p q. rw (entry-table_of kinds f i j p q) (normal i j p q);
 }
 
@@ -48,7 +55,7 @@ normal_one : (i j : ℕ) (kinds : List Kind) (b : Bool) → i == j ≡ b → IsN
 normal_one i j kinds false e = tt
 normal_one i j kinds true e = rw (eqb-true i j e) (normal_equal (kind_at kinds j))
 
-pub IsMatrix-one_of : (kinds : List Kind) → length kinds ≤ TYPES_MOST → IsMatrix (one_of kinds)
+pub IsMatrix-one_of : (kinds : List Kind) → length kinds ≤ types_most → IsMatrix (one_of kinds)
 IsMatrix-one_of kinds few = IsMatrix-table_of kinds one_at few (λ i j p q. normal_one i j kinds (i == j) refl)
 
 pub IsMatrix-times_of : (a b : Table) → IsMatrix a → IsMatrix (times_of a b)
@@ -104,7 +111,7 @@ IsMatrix-SetsEntry kinds old new i j op m e sets = record {
   ];
 }
 
-pub IsMatrix-zero_of : (kinds : List Kind) → length kinds ≤ TYPES_MOST → IsMatrix (zero_of kinds)
+pub IsMatrix-zero_of : (kinds : List Kind) → length kinds ≤ types_most → IsMatrix (zero_of kinds)
 IsMatrix-zero_of kinds few = IsMatrix-table_of kinds (λ i j. None) few (λ i j p q. tt)
 
 -- a part of a row more
@@ -114,10 +121,14 @@ first_cells-add kinds f i zero le = rw (add-zero, append-nil) refl
 first_cells-add kinds f i (suc m) le =
     let n = length kinds in
     let here : f ((i * n + m) / n) ((i * n + m) % n) ≡ f i m = ap (λ r. f r ((i * n + m) % n)) (div-mul-add i n m (omega arith)) ∙ ap (f i) (mod-mul-add i n m (omega arith)) in
-    let more : map (f i) (range_with_len 0 (suc m)) ≡ map (f i) (range_with_len 0 m) ++ f i m ∷ [] = ap (λ k. map (f i) (range_with_len 0 k)) (sym (add-one m)) ∙ map-range_with_len_more (f i) 0 m m (omega arith) in
+    let more : map (f i) (range_with_len 0 (suc m)) ≡ map (f i) (range_with_len 0 m) ++ f i m ∷ [] =
+    ap (λ k. map (f i) (range_with_len 0 k)) (sym (add-one m)) ∙ map-range_with_len_more (f i) 0 m m (omega arith) in
     let place : i * n + suc m ≡ i * n + m + 1 = omega arith in
-    let next : first_cells kinds f (i * n + suc m) ≡ first_cells kinds f (i * n + m) ++ f ((i * n + m) / n) ((i * n + m) % n) ∷ [] = ap (first_cells kinds f) place ∙ first_cells-more kinds f (i * n + m) in
-    next ∙ (ap (λ x. first_cells kinds f (i * n + m) ++ x ∷ []) here ∙ (ap (λ xs. xs ++ f i m ∷ []) (first_cells-add kinds f i m (omega arith)) ∙ (append_assoc (first_cells kinds f (i * n)) (map (f i) (range_with_len 0 m)) (f i m ∷ []) ∙ ap (λ xs. first_cells kinds f (i * n) ++ xs) (sym more))))
+    let next : first_cells kinds f (i * n + suc m) ≡ first_cells kinds f (i * n + m) ++ f ((i * n + m) / n) ((i * n + m) % n) ∷ [] =
+    ap (first_cells kinds f) place ∙ first_cells-more kinds f (i * n + m) in
+    next ∙ (ap (λ x. first_cells kinds f (i * n + m) ++ x ∷ []) here
+    ∙ (ap (λ xs. xs ++ f i m ∷ []) (first_cells-add kinds f i m (omega arith))
+    ∙ (append_assoc (first_cells kinds f (i * n)) (map (f i) (range_with_len 0 m)) (f i m ∷ []) ∙ ap (λ xs. first_cells kinds f (i * n) ++ xs) (sym more))))
 
 -- the entries with a row more
 pub first_cells-append : (kinds : List Kind) (f : ℕ → ℕ → Option Op) (i : ℕ) (cells row rest : List (Option Op)) (len : ℕ)

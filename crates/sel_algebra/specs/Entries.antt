@@ -6,11 +6,12 @@
 --   IsNormalEntry a from to      nothing, or a normal operator
 --   entry_class a from to        the class of an entry, or nothing
 --   ClassEntryAtMost c d         the order of these, nothing being below all
-use Rattle.std.specs.Prelude.{ℕ, zero, suc, Option, Some, None, IfSome, ⊤}
+--   greater_class c d            the greater of two
+use Rattle.std.specs.Prelude.{ℕ, zero, suc, if◌then◌else◌, Option, Some, None, IfSome, ⊤}
 use Rattle.sel_algebra.specs.declared.vocabulary.Op.{Op}
 use Rattle.sel_algebra.specs.declared.vocabulary.Kind.{Kind}
 use Rattle.sel_algebra.specs.declared.vocabulary.Class.{Class}
-use Rattle.sel_algebra.specs.Operators.{AtMost, join_of, IsNormal, typed_composition, growth_class, ClassAtMost}
+use Rattle.sel_algebra.specs.Operators.{AtMost, join_of, IsNormal, typed_composition, growth_class, class_at_most, ClassAtMost}
 
 -- the join of two entries, nothing being below all
 abbrev pub joined : Option Op → Option Op → Option Op
@@ -49,3 +50,9 @@ abbrev pub ClassEntryAtMost : Option Class → Option Class → Type 0
 ClassEntryAtMost None d = ⊤
 ClassEntryAtMost (Some c) None = ⊥
 ClassEntryAtMost (Some c) (Some d) = ClassAtMost c d
+
+-- the greater of two classes, nothing being below all
+abbrev pub greater_class : Option Class → Option Class → Option Class
+greater_class None d = d
+greater_class (Some c) None = Some c
+greater_class (Some c) (Some d) = Some (if class_at_most c d then d else c)

@@ -3,6 +3,8 @@ use Rattle.std.specs.Prelude.{◌≡◌, ◌↔◌}
 use Rattle.sel_algebra.specs.declared.vocabulary.Op.{Op}
 use Rattle.sel_algebra.specs.declared.vocabulary.Op.TheVariants.{Equal}
 use Rattle.sel_algebra.specs.declared.vocabulary.Kind.{Kind}
+use Rattle.sel_algebra.specs.declared.vocabulary.Kind.TheVariants.{Fixed}
+use Rattle.sel_algebra.specs.declared.vocabulary.Class.TheVariants.{Constant}
 use Rattle.sel_algebra.specs.Operators.{AtMost, join_of, star_of, mirror_of, normal_of, IsNormal, typed_composition, growth_class, ClassAtMost}
 
 -- each operator is at most itself
@@ -24,7 +26,8 @@ JoinIsLeastUpperBound = (a b c : Op) → (AtMost a c × AtMost b c) ↔ AtMost (
 -- a normal form is its own normal form, and so is the join of two
 abbrev pub NormalFormsAreKept : Type 0
 NormalFormsAreKept =
-    (k l : Kind) (a b : Op) → IsNormal (normal_of a k l) k l × (IsNormal a k l → IsNormal b k l → IsNormal (join_of a b) k l)
+    (k l : Kind) (a b : Op)
+    → IsNormal (normal_of a k l) k l × (IsNormal a k l → IsNormal b k l → IsNormal (join_of a b) k l)
 
 -- three parts of a path may be composed in either order
 abbrev pub TypedCompositionIsAssociative : Type 0
@@ -49,6 +52,12 @@ TypedCompositionDistributesBeforeJoin =
     (k l m : Kind) (a b c : Op) → IsNormal a k l → IsNormal b l m → IsNormal c l m
     → typed_composition a (join_of b c) k m ≡ join_of (typed_composition a b k m) (typed_composition a c k m)
 
+-- what is composed of greater operators is greater
+abbrev pub TypedCompositionKeepsOrder : Type 0
+TypedCompositionKeepsOrder =
+    (k l : Kind) (a b c d : Op) → AtMost a c → AtMost b d
+    → AtMost (typed_composition a b k l) (typed_composition c d k l)
+
 -- a path taken backwards is its parts taken backwards, the last part first
 abbrev pub MirrorReversesTypedComposition : Type 0
 MirrorReversesTypedComposition =
@@ -71,3 +80,8 @@ StarIsLeast =
 abbrev pub ClassKeepsOrder : Type 0
 ClassKeepsOrder =
     (k l : Kind) (a b : Op) → AtMost a b → ClassAtMost (growth_class a k l) (growth_class b k l)
+
+-- only between fixed types is the class constant
+abbrev pub ConstantIsOfFixedTypes : Type 0
+ConstantIsOfFixedTypes =
+    (k l : Kind) (a : Op) → (growth_class a k l ≡ Constant) ↔ ((k ≡ Fixed) × (l ≡ Fixed))

@@ -1,4 +1,5 @@
 -- Matrices of operators over a list of types, and their product and join.
+--   types_most                   the most types of a matrix
 --   Table                        the kinds of the types, and the entries row by row
 --   laid_out kinds cells         the table with these
 --   kind_at kinds i              the kind of type i
@@ -12,21 +13,22 @@
 --   through a b i j k            the path from i to j by way of k
 --   times_of a b                 the product: the entries product_at
 --   plus_of a b                  the join entry by entry: the entries sum_at
+--   path_of, product_row, product_cells, sum_cells   the same of matrices over the same types, by their entries
 --   JoinsEach old new f          a row whose entries are joined with those of f
 --   SetsEntry old new i j op     one entry becomes the normal form of an operator
 --   HasNoEntries t               nothing everywhere
---   class_at t i j, HasClass t class   the class of an entry
---   IsGreatestClass t greatest   the greatest class of the entries
-use Rattle.std.specs.Prelude.{◌≡◌, ℕ, ◌+◌, ◌*◌, ◌/◌, ◌%◌, ◌<◌, ◌≤◌, ◌==◌, if◌then◌else◌, Option, Some, None, IfSome, List, length, map, slice_index_or}
+use Rattle.std.specs.Prelude.{◌≡◌, ℕ, ◌+◌, ◌*◌, ◌/◌, ◌%◌, ◌<◌, ◌≤◌, ◌==◌, if◌then◌else◌, Option, Some, None, List, length, map, slice_index_or}
 use Rattle.std.specs.List.{range_with_len}
-use Rattle.sel_algebra.specs.declared.TheConstants.{TYPES_MOST}
 use Rattle.sel_algebra.specs.declared.vocabulary.Op.{Op}
 use Rattle.sel_algebra.specs.declared.vocabulary.Op.TheVariants.{Equal}
 use Rattle.sel_algebra.specs.declared.vocabulary.Kind.{Kind}
 use Rattle.sel_algebra.specs.declared.vocabulary.Kind.TheVariants.{Fixed}
-use Rattle.sel_algebra.specs.declared.vocabulary.Class.{Class}
 use Rattle.sel_algebra.specs.Operators.{normal_of}
-use Rattle.sel_algebra.specs.Entries.{joined, join_below, composed, IsNormalEntry, entry_class, ClassEntryAtMost}
+use Rattle.sel_algebra.specs.Entries.{joined, join_below, composed, IsNormalEntry}
+
+-- the most types of a matrix
+abbrev pub types_most : ℕ
+types_most = 64
 
 -- the kinds of the types, and the entries row by row
 pub record Table : Type 0 where
@@ -63,7 +65,7 @@ table_of kinds f = laid_out kinds (first_cells kinds f (length kinds * length ki
 
 -- few types, and a normal entry between each two
 pub record IsMatrix (t : Table) : Type 0 where
-  pub few : length t.kinds ≤ TYPES_MOST
+  pub few : length t.kinds ≤ types_most
   pub whole : length t.cells ≡ length t.kinds * length t.kinds
   pub normal : EachPair t.kinds (λ i j. IsNormalEntry (entry t i j) (kind_at t.kinds i) (kind_at t.kinds j))
 
@@ -87,6 +89,14 @@ through a b i j k = composed (entry a i k) (entry b k j) (kind_at a.kinds i) (ki
 abbrev pub product_at : Table → Table → ℕ → ℕ → Option Op
 product_at a b i j = join_below (length a.kinds) (through a b i j)
 
+-- the path from i to j through type k, of two matrices over the same types by their entries
+abbrev pub path_of : List Kind → List (Option Op) → List (Option Op) → ℕ → ℕ → ℕ → Option Op
+path_of kinds first second i j k = through (laid_out kinds first) (laid_out kinds second) i j k
+
+-- row i of their product
+abbrev pub product_row : List Kind → List (Option Op) → List (Option Op) → ℕ → List (Option Op)
+product_row kinds first second i = row_of kinds (product_at (laid_out kinds first) (laid_out kinds second)) i
+
 -- each entry j of a row is joined with f j
 abbrev pub JoinsEach : List (Option Op) → List (Option Op) → (ℕ → Option Op) → Type 0
 JoinsEach old new f = (j : ℕ) → j < length old → slice_index_or new j None ≡ joined (slice_index_or old j None) (f j)
@@ -103,6 +113,14 @@ sum_at a b i j = joined (entry a i j) (entry b i j)
 abbrev pub plus_of : Table → Table → Table
 plus_of a b = table_of a.kinds (sum_at a b)
 
+-- the entries of the product of two matrices over the same types, by their entries
+abbrev pub product_cells : List Kind → List (Option Op) → List (Option Op) → List (Option Op)
+product_cells kinds first second = (times_of (laid_out kinds first) (laid_out kinds second)).cells
+
+-- and of their join
+abbrev pub sum_cells : List Kind → List (Option Op) → List (Option Op) → List (Option Op)
+sum_cells kinds first second = (plus_of (laid_out kinds first) (laid_out kinds second)).cells
+
 -- the entry from i to j becomes the normal form of op, and all else stays
 pub record SetsEntry (old new : Table) (i j : ℕ) (op : Op) : Type 0 where
   pub kinds : new.kinds ≡ old.kinds
@@ -112,16 +130,3 @@ pub record SetsEntry (old new : Table) (i j : ℕ) (op : Op) : Type 0 where
 -- no entry between any two types
 abbrev pub HasNoEntries : Table → Type 0
 HasNoEntries t = EachPair t.kinds (λ i j. entry t i j ≡ None)
-
--- the class of the entry from i to j
-abbrev pub class_at : Table → ℕ → ℕ → Option Class
-class_at t i j = entry_class (entry t i j) (kind_at t.kinds i) (kind_at t.kinds j)
-
--- the entry between some two types has this class
-abbrev pub HasClass : Table → Class → Type 0
-HasClass t class = (i : ℕ) × ((j : ℕ) × ((i < length t.kinds) × ((j < length t.kinds) × (class_at t i j ≡ Some class))))
-
--- the greatest class of the entries, and nothing where there is no entry
-pub record IsGreatestClass (t : Table) (greatest : Option Class) : Type 0 where
-  pub attained : IfSome greatest (λ class. HasClass t class)
-  pub at_least : EachPair t.kinds (λ i j. ClassEntryAtMost (class_at t i j) greatest)

@@ -9,8 +9,6 @@
 pub mod laws;
 mod matrix;
 mod operators;
-#[cfg(test)]
-mod tests;
 mod vocabulary;
 
 pub use matrix::Matrix;
@@ -18,4 +16,4 @@ pub use operators::{class_of, compose, join, mirror, normal, star};
 pub use vocabulary::{Class, Kind, Op, Shape, Symbol};
 
 /// The most types that a matrix may be over.
-pub const TYPES_MOST: usize = 32;
+pub const TYPES_MOST: usize = 64;

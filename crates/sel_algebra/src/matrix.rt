@@ -1,9 +1,9 @@
-ghost use Rattle.std.specs.Prelude.{◌≡◌, ◌*◌, ◌<◌, ◌≤◌, ◌↔◌, length, replicate, IfOk, IsTrue, IsNone, ◌⊎◌};
-ghost use Rattle.sel_algebra.specs.Entries.{joined, composed, entry_class, ClassEntryAtMost};
-ghost use Rattle.sel_algebra.specs.Table.{laid_out, IsMatrix, entry, row_of, through, product_at, JoinsEach, zero_of, one_at, one_of, times_of, plus_of, SetsEntry, IsGreatestClass, HasNoEntries};
-ghost use Rattle.sel_algebra.specs.Closure.{IsClosureOf};
+ghost use Rattle.std.specs.Prelude.{◌≡◌, ◌*◌, ◌<◌, ◌≤◌, ◌↔◌, length, replicate, IfOk, IsTrue, IsNone};
+ghost use Rattle.sel_algebra.specs.Entries.{joined, composed, entry_class, greater_class};
+ghost use Rattle.sel_algebra.specs.Table.{types_most, laid_out, IsMatrix, entry, path_of, product_row, product_cells, sum_cells, JoinsEach, zero_of, one_at, one_of, times_of, plus_of, SetsEntry, HasNoEntries};
+ghost use Rattle.sel_algebra.specs.Closure.{IsClosureOf, closure_of};
+ghost use Rattle.sel_algebra.specs.Greatest.{IsGreatestClass, greatest_from, greatest_class_of};
 
-use crate::TYPES_MOST;
 use crate::operators::{class_of, compose, join, normal};
 use crate::vocabulary::{Class, Kind, Op};
 use std::alloc::{AllocError, Global};
@@ -33,7 +33,7 @@ impl Model for Matrix {
 impl Matrix {
     /// The matrix with no entries.
     pub fn zero(alloc: Global, kinds: &[Kind]) -> Result<Matrix, AllocError>
-        requires { length kinds.now ≤ TYPES_MOST }
+        requires { length kinds.now ≤ types_most }
         ensures value { IfOk result (λ zero. zero ≡ zero_of kinds.now) }
         ensures matrix { IfOk result (λ zero. IsMatrix zero) }
     {
@@ -43,7 +43,7 @@ impl Matrix {
 
     /// The matrix with `Equal` from each type to itself, and no other entry.
     pub fn one(alloc: Global, kinds: &[Kind]) -> Result<Matrix, AllocError>
-        requires { length kinds.now ≤ TYPES_MOST }
+        requires { length kinds.now ≤ types_most }
         ensures value { IfOk result (λ one. one ≡ one_of kinds.now) }
         ensures matrix { IfOk result (λ one. IsMatrix one) }
     {
@@ -113,6 +113,7 @@ impl Matrix {
     /// The least matrix over the same types that is at least [`Matrix::one`] and at least this
     /// matrix times itself: paths repeated any number of times, also none.
     pub fn closure(&self, alloc: Global) -> Result<Matrix, AllocError>
+        ensures value { IfOk result (λ closure. closure ≡ closure_of self.now) }
         ensures least { IfOk result (λ closure. IsClosureOf self.now closure) }
         ensures matrix { IfOk result (λ closure. IsMatrix closure) }
     {
@@ -129,6 +130,7 @@ impl Matrix {
 
     /// The greatest growth class of the entries, and `None` where there is no entry.
     pub fn greatest_class(&self) -> Option<Class>
+        ensures value { result ≡ greatest_class_of self.now }
         ensures greatest { IsGreatestClass self.now result }
         ensures none { IsNone result ↔ HasNoEntries self.now }
     {
@@ -161,7 +163,7 @@ impl Matrix {
 
 /// The entries of the matrix that has none.
 fn cells_of_zero(alloc: Global, kinds: &[Kind]) -> Result<Vec<Option<Op>>, AllocError>
-    requires { length kinds.now ≤ TYPES_MOST }
+    requires { length kinds.now ≤ types_most }
     ensures { IfOk result (λ cells. cells.items ≡ (zero_of kinds.now).cells) }
 {
     no_entries(alloc, kinds.len() * kinds.len())
@@ -176,7 +178,7 @@ fn no_entries(alloc: Global, count: usize) -> Result<Vec<Option<Op>>, AllocError
 
 /// The entries of the matrix that is `Equal` from each type to itself.
 fn cells_of_one(alloc: Global, kinds: &[Kind]) -> Result<Vec<Option<Op>>, AllocError>
-    requires { length kinds.now ≤ TYPES_MOST }
+    requires { length kinds.now ≤ types_most }
     ensures { IfOk result (λ cells. cells.items ≡ (one_of kinds.now).cells) }
 {
     let size = kinds.len();
@@ -201,10 +203,10 @@ fn cells_of_product(
     first: &[Option<Op>],
     second: &[Option<Op>],
 ) -> Result<Vec<Option<Op>>, AllocError>
-    requires few { length kinds.now ≤ TYPES_MOST }
+    requires few { length kinds.now ≤ types_most }
     requires first { length first.now ≡ length kinds.now * length kinds.now }
     requires second { length second.now ≡ length kinds.now * length kinds.now }
-    ensures { IfOk result (λ cells. cells.items ≡ (times_of (laid_out kinds.now first.now) (laid_out kinds.now second.now)).cells) }
+    ensures { IfOk result (λ cells. cells.items ≡ product_cells kinds.now first.now second.now) }
 {
     let size = kinds.len();
     let mut cells = Vec::with_capacity(alloc, size * size)?;
@@ -224,12 +226,12 @@ fn product_row(
     from: usize,
     row: &mut [Option<Op>],
 )
-    requires few { length kinds.now ≤ TYPES_MOST }
+    requires few { length kinds.now ≤ types_most }
     requires first { length first.now ≡ length kinds.now * length kinds.now }
     requires second { length second.now ≡ length kinds.now * length kinds.now }
     requires from { from < length kinds.now }
     requires row { row.old ≡ replicate (length kinds.now) None }
-    ensures { row.new ≡ row_of kinds.now (product_at (laid_out kinds.now first.now) (laid_out kinds.now second.now)) from }
+    ensures { row.new ≡ product_row kinds.now first.now second.now from }
 {
     for middle in 0..kinds.len() {
         join_paths(kinds, first, second, from, middle, row);
@@ -245,13 +247,13 @@ fn join_paths(
     middle: usize,
     row: &mut [Option<Op>],
 )
-    requires few { length kinds.now ≤ TYPES_MOST }
+    requires few { length kinds.now ≤ types_most }
     requires first { length first.now ≡ length kinds.now * length kinds.now }
     requires second { length second.now ≡ length kinds.now * length kinds.now }
     requires from { from < length kinds.now }
     requires middle { middle < length kinds.now }
     requires row { length row.old ≡ length kinds.now }
-    ensures { JoinsEach row.old row.new (λ to. through (laid_out kinds.now first.now) (laid_out kinds.now second.now) from to middle) }
+    ensures { JoinsEach row.old row.new (λ to. path_of kinds.now first.now second.now from to middle) }
 {
     let size = kinds.len();
     let step = first[from * size + middle];
@@ -271,10 +273,10 @@ fn cells_of_sum(
     first: &[Option<Op>],
     second: &[Option<Op>],
 ) -> Result<Vec<Option<Op>>, AllocError>
-    requires few { length kinds.now ≤ TYPES_MOST }
+    requires few { length kinds.now ≤ types_most }
     requires first { length first.now ≡ length kinds.now * length kinds.now }
     requires second { length second.now ≡ length kinds.now * length kinds.now }
-    ensures { IfOk result (λ cells. cells.items ≡ (plus_of (laid_out kinds.now first.now) (laid_out kinds.now second.now)).cells) }
+    ensures { IfOk result (λ cells. cells.items ≡ sum_cells kinds.now first.now second.now) }
 {
     let mut cells = Vec::with_capacity(alloc, first.len())?;
     for place in 0..first.len() {
@@ -317,14 +319,28 @@ fn set_cell(kinds: &[Kind], cells: &mut [Option<Op>], from: usize, to: usize, op
 
 /// The greatest growth class of the entries, and `None` where there is no entry.
 fn greatest_class_of(kinds: &[Kind], cells: &[Option<Op>]) -> Option<Class>
-    requires few { length kinds.now ≤ TYPES_MOST }
+    requires few { length kinds.now ≤ types_most }
     requires cells { length cells.now ≡ length kinds.now * length kinds.now }
-    ensures { IsGreatestClass (laid_out kinds.now cells.now) result }
+    ensures { result ≡ greatest_class_of (laid_out kinds.now cells.now) }
+{
+    let mut greatest = None;
+    for from in 0..kinds.len() {
+        greatest = greater_class(greatest, greatest_class_from(kinds, cells, from));
+    }
+    greatest
+}
+
+/// The greatest growth class of the entries from a type, and `None` where there is no such entry.
+fn greatest_class_from(kinds: &[Kind], cells: &[Option<Op>], from: usize) -> Option<Class>
+    requires few { length kinds.now ≤ types_most }
+    requires cells { length cells.now ≡ length kinds.now * length kinds.now }
+    requires from { from < length kinds.now }
+    ensures { result ≡ greatest_from (laid_out kinds.now cells.now) from }
 {
     let size = kinds.len();
     let mut greatest = None;
-    for place in 0..cells.len() {
-        let class = class_of_entry(cells[place], kinds[place / size], kinds[place % size]);
+    for to in 0..size {
+        let class = class_of_entry(cells[from * size + to], kinds[from], kinds[to]);
         greatest = greater_class(greatest, class);
     }
     greatest
@@ -342,12 +358,10 @@ fn class_of_entry(entry: Option<Op>, from: Kind, to: Kind) -> Option<Class>
 
 /// The greater of two classes, `None` being below all.
 fn greater_class(first: Option<Class>, second: Option<Class>) -> Option<Class>
-    ensures either { (result ≡ first) ⊎ (result ≡ second) }
-    ensures first { ClassEntryAtMost first result }
-    ensures second { ClassEntryAtMost second result }
+    ensures { result ≡ greater_class first second }
 {
     match (first, second) {
-        (Some(first), Some(second)) => Some(if first < second { second } else { first }),
+        (Some(first), Some(second)) => Some(if first <= second { second } else { first }),
         (None, second) => second,
         (first, None) => first,
     }

@@ -52,9 +52,7 @@ pub enum Shape {
 }
 
 /// One use of an edge of the schema, along it or against it.
-///
-/// The order is by edge, and along an edge before against it.
-#[derive(Clone, Copy, Debug, PartialEq, Eq, PartialOrd, Ord, Hash)]
+#[derive(Clone, Copy, Debug, PartialEq, Eq, Hash)]
 pub struct Symbol {
     /// The number of the schema edge, which is that of its constraint.
     pub edge: u8,
