@@ -1,6 +1,7 @@
 -- The skeleton of a rule: how its k conjuncts join its variables. The definitions are total: they
 -- give parts to every shape and every k.
 --   conjuncts_most         the most conjuncts of a rule
+--   second_most            the most conjuncts of a second path
 --   SkeletonValue          a shape and a number of conjuncts
 --   HasSkeleton shape k    the shape can have k conjuncts
 --   upper_half k, lower_half k   half of k, rounded up and down
@@ -13,13 +14,20 @@
 --   later_ends shape m n j   the ends of conjunct j after the spine
 --   ends_of shape k i      the variables at the two ends of conjunct i
 --   PartsAreAll            the parts together are all conjuncts
-use Rattle.std.specs.Prelude.{◌≡◌, ℕ, ◌+◌, ◌-◌, ◌/◌, ◌%◌, ◌≤◌, ◌==◌, nat_lt, if◌then◌else◌}
+--   SpineIsInRange         the spine has a conjunct, and no more than a rule may have
+--   SecondIsInRange        a second path is within its limit
+--   ArmsStartAtTheSpine    the first variable of an arm is one of the spine
+use Rattle.std.specs.Prelude.{◌≡◌, ℕ, ◌+◌, ◌-◌, ◌/◌, ◌%◌, ◌<◌, ◌≤◌, ◌==◌, nat_lt, if◌then◌else◌}
 use Rattle.sel_algebra.specs.declared.vocabulary.Shape.{Shape}
 use Rattle.sel_algebra.specs.declared.vocabulary.Shape.TheVariants.{Chain, Star, Cycle, StarChain}
 
 -- the most conjuncts of a rule
 abbrev pub conjuncts_most : ℕ
 conjuncts_most = 8
+
+-- the most conjuncts of a second path
+abbrev pub second_most : ℕ
+second_most = 4
 
 -- a shape and a number of conjuncts
 pub record SkeletonValue : Type 0 where
@@ -80,8 +88,26 @@ later_ends shape m n j = (arm_start shape m j, m + 1 + j)
 
 -- the ends of conjunct i: the spine first
 abbrev pub ends_of : Shape → ℕ → ℕ → ℕ × ℕ
-ends_of shape k i = if nat_lt i (spine_of shape k) then (i, i + 1) else later_ends shape (spine_of shape k) (second_of shape k) (i - spine_of shape k)
+ends_of shape k i =
+    if nat_lt i (spine_of shape k) then (i, i + 1)
+    else later_ends shape (spine_of shape k) (second_of shape k) (i - spine_of shape k)
 
 -- the spine, the second path and the arms are together all conjuncts
 abbrev pub PartsAreAll : Type 0
-PartsAreAll = (shape : Shape) → (k : ℕ) → HasSkeleton shape k → spine_of shape k + second_of shape k + arms_of shape k ≡ k
+PartsAreAll =
+    (shape : Shape) → (k : ℕ) → HasSkeleton shape k → spine_of shape k + second_of shape k + arms_of shape k ≡ k
+
+-- the spine has a conjunct, and no more than a rule may have
+abbrev pub SpineIsInRange : Type 0
+SpineIsInRange =
+    (shape : Shape) (k : ℕ) → HasSkeleton shape k → (1 ≤ spine_of shape k) × (spine_of shape k ≤ conjuncts_most)
+
+-- a second path is within its limit
+abbrev pub SecondIsInRange : Type 0
+SecondIsInRange = (shape : Shape) (k : ℕ) → HasSkeleton shape k → second_of shape k ≤ second_most
+
+-- the first variable of an arm is one of the spine, whose last is numbered as the spine is long
+abbrev pub ArmsStartAtTheSpine : Type 0
+ArmsStartAtTheSpine =
+    (shape : Shape) (k j : ℕ) → HasSkeleton shape k → j < arms_of shape k
+    → (ends_of shape k (spine_of shape k + second_of shape k + j)).0 ≤ spine_of shape k

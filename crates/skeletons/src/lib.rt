@@ -3,10 +3,11 @@
 
 pub mod laws;
 mod skeleton;
-#[cfg(test)]
-mod tests;
 
 pub use skeleton::Skeleton;
 
 /// The most conjuncts of a rule.
 pub const CONJUNCTS_MOST: u8 = 8;
+
+/// The most conjuncts of the second path of a cycle.
+pub const SECOND_MOST: u8 = 4;
