@@ -100,7 +100,7 @@ Keeps-first_broken d none =
         members = one _ from_20.0;
         numbers = one _ from_20.1.0;
         choices = first_failing-none _ 2 from_20.1.1.0;
-        ranges = first_failing-none _ 4 from_20.1.1.1.0;
+        ranges = first_failing-none _ 5 from_20.1.1.1.0;
         cycles = one _ from_20.1.1.1.1.0;
       };
     }
@@ -239,6 +239,9 @@ IsConfig-config_of d keeps = record {
       (same_ends d) keeps.known_names keeps.constraints_differ);
   workload = IsWorkload-workload_of d keeps.workload;
 }
+
+pub IsConfig-first_broken : (d : Data) → first_broken rules d ≡ None → IsConfig (config_of d)
+IsConfig-first_broken d none = IsConfig-config_of d (Keeps-first_broken d none)
 
 -- ---- the values that are read
 

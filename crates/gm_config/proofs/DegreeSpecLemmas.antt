@@ -8,7 +8,8 @@ use Rattle.std.specs.List.{list_all, list_any, cons_option}
 use Rattle.std.specs.Option.{option_or}
 use Rattle.serde_json.specs.Data.{Data}
 use Rattle.gm_config.specs.Json.{whole, number, number_at, elements_at}
-use Rattle.gm_config.specs.DegreeSpec.{degree_most, exponent_most, weight_most, weights_most, is_of_kind, uniform_in, bell_in, zipf_in, zipf_to_max_in, free_in, plain_in, table_in, are_weights, weights_of, degree_spec_in, degree_spec_of, AreWeights, IsDegreeSpec}
+use Rattle.gm_config.specs.Limits.{degree_most, exponent_most, weight_most, weights_most}
+use Rattle.gm_config.specs.DegreeSpec.{is_of_kind, uniform_in, bell_in, zipf_in, zipf_to_max_in, free_in, plain_in, table_in, are_weights, weights_of, degree_spec_in, degree_spec_of, AreWeights, IsDegreeSpec}
 use Rattle.gm_config.specs.declared.degree_specs.DegreeSpec.{DegreeSpec}
 use Rattle.gm_config.specs.declared.degree_specs.DegreeSpec.TheVariants.{Bell, Table, Free}
 use Rattle.gm_config.proofs.ListLemmas.{length-filter_map, All-filter_map}

@@ -4,7 +4,8 @@ use Rattle.std.specs.Prelude.{if◌then◌else◌, option_and_then, unwrap_or, i
 use Rattle.std.specs.Option.{option_or}
 use Rattle.serde_json.specs.Data.{Data}
 use Rattle.gm_config.specs.Json.{number_at, elements_at, has_exactly}
-use Rattle.gm_config.specs.DegreeSpec.{degree_most, exponent_most, is_of_kind, are_weights, uniform_in, bell_in, zipf_in, zipf_to_max_in, free_in, plain_in, table_in, degree_spec_in, is_degree_spec, degree_spec_of, weights_of}
+use Rattle.gm_config.specs.Limits.{degree_most, exponent_most}
+use Rattle.gm_config.specs.DegreeSpec.{is_of_kind, are_weights, uniform_in, bell_in, zipf_in, zipf_to_max_in, free_in, plain_in, table_in, degree_spec_in, is_degree_spec, degree_spec_of, weights_of}
 use Rattle.gm_config.specs.ConstraintRules.{is_free}
 use Rattle.gm_config.specs.declared.degree_specs.DegreeSpec.{DegreeSpec}
 use Rattle.gm_config.specs.declared.degree_specs.DegreeSpec.TheVariants.{Uniform, Bell, Zipf, Table, Free}

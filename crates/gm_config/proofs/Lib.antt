@@ -6,3 +6,4 @@ pub mod DegreeSpecLemmas
 pub mod WorkloadLemmas
 pub mod FreeLemmas
 pub mod ConfigLemmas
+pub mod SampleLemmas

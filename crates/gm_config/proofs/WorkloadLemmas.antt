@@ -1,6 +1,7 @@
 -- A workload that the rules let through is in its limits.
-use Rattle.std.proofs.Common.{inl, inr, ◌≡◌, ℕ, ◌≤◌, List, [], ◌∷◌, length, Bool, true, false, not, ◌&&◌, ◌||◌, nat_le, Option, Some, None, is_some, option_map, refl, sym, ap, ◌∙◌, lit<, arith}
+use Rattle.std.proofs.Common.{inl, inr, ◌≡◌, ℕ, ◌<◌, ◌≤◌, List, [], ◌∷◌, map, get_or, slice_get, length, Bool, true, false, not, ◌&&◌, ◌||◌, nat_le, Option, Some, None, is_some, option_map, refl, sym, ap, ◌∙◌, lit<, arith}
 use Rattle.std.proofs.lemmas.Bool.{cases_Bool, leb-true}
+use Rattle.std.proofs.lemmas.Option.{slice_get-map, slice_get-get_or, slice_get_past}
 use Rattle.std.proofs.lemmas.List.Elements.{All-nil}
 use Rattle.std.proofs.lemmas.List.Kept.{AllPairs-cons}
 use Rattle.std.proofs.lemmas.Slice.Eq.{bytes_eq-Decides}
@@ -14,8 +15,11 @@ use Rattle.sel_algebra.specs.declared.vocabulary.Shape.{Shape}
 use Rattle.sel_algebra.specs.declared.vocabulary.Shape.TheVariants.{Chain, Star, Cycle, StarChain}
 use Rattle.sel_algebra.specs.declared.vocabulary.Class.{Class}
 use Rattle.sel_algebra.specs.declared.vocabulary.Class.TheVariants.{Constant, Linear, Quadratic}
-use Rattle.gm_config.specs.Json.{text, number, number_at, elements_at}
-use Rattle.gm_config.specs.WorkloadRules.{queries_most, star_most, shapes_most, classes_most, rules_most, conjuncts_most, disjuncts_most, length_most, shape_named, class_named, shape_in, class_in, are_different, range_within, conjuncts_in, range_at, has_numbers, has_choices, allows_cycles, has_workload_members, KeepsRules, KeepsWorkloadRules, no_range, workload_in, workload_of, AreChoices, IsRange, IsWorkload}
+use Rattle.gm_config.specs.Json.{text, number, number_at, elements, elements_at}
+use Rattle.gm_config.specs.Limits.{queries_most, star_most, shapes_most, classes_most}
+use Rattle.gm_config.specs.CodeLimits.{seen}
+use Rattle.gm_config.specs.declared.limits.RangeLimits.{RangeLimits as CodeLimits}
+use Rattle.gm_config.specs.WorkloadRules.{shape_named, class_named, shape_in, class_in, are_different, are_choices, range_within, pair, range_at, has_numbers, has_choices, allows_cycles, has_workload_members, KeepsRules, KeepsWorkloadRules, workload_in, workload_of, AreChoices, IsRange, IsFormat, IsWorkload}
 use Rattle.gm_config.specs.declared.workload_rules.Range.{Range}
 use Rattle.gm_config.proofs.ListLemmas.{length-filter_map, All-cons_option}
 use Rattle.gm_config.proofs.NumberLemmas.{number-limits, number_at-limits}
@@ -36,6 +40,15 @@ KeepsRules-workload d workload keeps there = record {
 
 -- ---- numbers and ranges
 
+-- the limits of a range of the table, as they are seen
+pub seen-at : (table : List CodeLimits) (i : ℕ) (limits : CodeLimits) → i < length table → limits ≡ get_or table i limits → slice_get (map seen table) i ≡ Some (seen limits)
+seen-at table i limits within is =
+    let there : slice_get table i ≡ Some limits = slice_get-get_or table i limits within ∙ ap Some (sym is) in
+    rw (slice_get-map, there) refl
+
+pub unseen-at : (table : List CodeLimits) (i : ℕ) → length table ≤ i → slice_get (map seen table) i ≡ None
+unseen-at table i past = rw (slice_get-map, slice_get_past table i past) refl
+
 most_or_zero : (o : Option ℕ) (most : ℕ) → ((n : ℕ) → o ≡ Some n → n ≤ most) → unwrap_or o 0 ≤ most
 most_or_zero None most small = omega arith
 most_or_zero (Some n) most small = small n refl
@@ -43,23 +56,39 @@ most_or_zero (Some n) most small = small n refl
 number_at-le : (name : List ℕ) (most : ℕ) (d : Data) → unwrap_or (number_at name 0 most d) 0 ≤ most
 number_at-le name most d = most_or_zero (number_at name 0 most d) most (λ n is. (number_at-limits name 0 most d n is).1)
 
-range_to : (most greatest : ℕ) (o : Option ℕ) → greatest ≤ most → ((n : ℕ) → o ≡ Some n → (1 ≤ n) × (n ≤ greatest))
-    → is_some (option_map (λ least. let range : Range = record { least = least; most = greatest } in range) o) ≡ true
-    → IsRange most (unwrap_or (option_map (λ least. let range : Range = record { least = least; most = greatest } in range) o) no_range)
-range_to most greatest None small limits found = absurd (cc)
-range_to most greatest (Some least) small limits found = record { positive = (limits least refl).0; ordered = (limits least refl).1; small = small }
+-- ranges that are within limits
+abbrev AreWithin : ℕ → ℕ → Option Range → Type 0
+AreWithin least most o = (range : Range) → o ≡ Some range → IsRange least most range
 
-range_from : (most : ℕ) (first : Data) (o : Option ℕ) → ((n : ℕ) → o ≡ Some n → n ≤ most)
-    → is_some (option_and_then (λ greatest. option_map (λ least. let range : Range = record { least = least; most = greatest } in range) (number 1 greatest first)) o) ≡ true
-    → IsRange most (unwrap_or (option_and_then (λ greatest. option_map (λ least. let range : Range = record { least = least; most = greatest } in range) (number 1 greatest first)) o) no_range)
-range_from most first None small found = absurd (cc)
-range_from most first (Some greatest) small found = range_to most greatest (number 1 greatest first) (small greatest refl) (number-limits 1 greatest first) found
+range_to : (least most greatest : ℕ) (o : Option ℕ) → greatest ≤ most → ((n : ℕ) → o ≡ Some n → (least ≤ n) × (n ≤ greatest))
+    → AreWithin least most (option_map (λ n. let range : Range = record { least = n; most = greatest } in range) o)
+range_to least most greatest None small limits range is = absurd (cc)
+range_to least most greatest (Some n) small limits range is =
+    let made : Path Range (record { least = n; most = greatest }) range = cc in
+    rw (← made) record { above = (limits n refl).0; ordered = (limits n refl).1; small = small }
 
-pub IsRange-range_within : (most : ℕ) (ds : List Data) → is_some (range_within most ds) ≡ true → IsRange most (unwrap_or (range_within most ds) no_range)
-IsRange-range_within most [] found = absurd (cc)
-IsRange-range_within most (first ∷ []) found = absurd (cc)
-IsRange-range_within most (first ∷ last ∷ []) found = range_from most first (number 1 most last) (λ n is. (number-limits 1 most last n is).1) found
-IsRange-range_within most (first ∷ last ∷ more ∷ ds) found = absurd (cc)
+range_from : (least most : ℕ) (first : Data) (o : Option ℕ) → ((n : ℕ) → o ≡ Some n → n ≤ most)
+    → AreWithin least most (option_and_then (λ greatest. option_map (λ n. let range : Range = record { least = n; most = greatest } in range) (number least greatest first)) o)
+range_from least most first None small range is = absurd (cc)
+range_from least most first (Some greatest) small range is =
+    range_to least most greatest (number least greatest first) (small greatest refl) (number-limits least greatest first) range is
+
+AreWithin-range_within : (least most : ℕ) (ds : List Data) → AreWithin least most (range_within least most ds)
+AreWithin-range_within least most [] range is = absurd (cc)
+AreWithin-range_within least most (first ∷ []) range is = absurd (cc)
+AreWithin-range_within least most (first ∷ last ∷ []) range is = range_from least most first (number least most last) (λ n e. (number-limits least most last n e).1) range is
+AreWithin-range_within least most (first ∷ last ∷ more ∷ ds) range is = absurd (cc)
+
+-- the range that a member may be
+IsRange-member : (least most : ℕ) (member : Option Data) → IsRange least most pair
+    → is_some (option_map_or (λ d. range_within least most (elements d)) member (Some pair)) ≡ true
+    → IsRange least most (unwrap_or (option_map_or (λ d. range_within least most (elements d)) member (Some pair)) pair)
+IsRange-member least most None fits there = fits
+IsRange-member least most (Some d) fits there = found (range_within least most (elements d)) (AreWithin-range_within least most (elements d)) there
+  where
+    found : (o : Option Range) → AreWithin least most o → is_some o ≡ true → IsRange least most (unwrap_or o pair)
+    found None within some = absurd (cc)
+    found (Some range) within some = within range refl
 
 -- ---- names
 
@@ -130,8 +159,7 @@ module _ {A : Type 0} (choice : Data → Option A) (name_of : A → List ℕ) (n
   four_tests : (a b c d : Bool) → a && b && c && d ≡ true → (a ≡ true) × (b ≡ true) × (c ≡ true) × (d ≡ true)
   four_tests a b c d all = grind arith
 
-  AreChoices-filter_map : (most : ℕ) (ds : List Data) → nat_le 1 (length ds) && nat_le (length ds) most && list_all (λ d. is_some (choice d)) ds && are_different ds ≡ true
-      → AreChoices most (filter_map choice ds)
+  AreChoices-filter_map : (most : ℕ) (ds : List Data) → are_choices choice most ds ≡ true → AreChoices most (filter_map choice ds)
   AreChoices-filter_map most ds are =
       let tests = four_tests (nat_le 1 (length ds)) (nat_le (length ds) most) (list_all (λ d. is_some (choice d)) ds) (are_different ds) are in
       let whole_length = length-filter_map choice ds tests.2 in
@@ -143,7 +171,7 @@ module _ {A : Type 0} (choice : Data → Option A) (name_of : A → List ℕ) (n
 
 -- ---- cycles
 
-two_conjuncts : (o : Option Range) → option_map_or (λ range. nat_le 2 range.most) o false ≡ true → 2 ≤ (unwrap_or o no_range).most
+two_conjuncts : (o : Option Range) → option_map_or (λ range. nat_le 2 range.most) o false ≡ true → 2 ≤ (unwrap_or o pair).most
 two_conjuncts None enough = absurd (cc)
 two_conjuncts (Some range) enough = leb-true 2 range.most enough
 
@@ -152,13 +180,24 @@ other_true true b either is = either
 other_true false b either is = absurd (cc)
 
 cycles_allowed : (ds : List Data) (o : Option Range) → not (list_any (λ d. bytes_eq (text d) (codes "cycle")) ds) || option_map_or (λ range. nat_le 2 range.most) o false ≡ true
-    → Contains (filter_map shape_in ds) Cycle → 2 ≤ (unwrap_or o no_range).most
+    → Contains (filter_map shape_in ds) Cycle → 2 ≤ (unwrap_or o pair).most
 unfolding name_of_shape
 cycles_allowed ds o allowed contains = elim (cases_Bool (list_any (λ d. bytes_eq (text d) (codes "cycle")) ds)) [
   | inl hit ↦ two_conjuncts o (other_true (list_any (λ d. bytes_eq (text d) (codes "cycle")) ds) (option_map_or (λ range. nat_le 2 range.most) o false) allowed hit)
   | inr miss ↦ absurd (others_differ shape_in name_of_shape (λ d shape is. shape_named-is (text d) shape is) Cycle (codes "cycle") ds refl miss
       contains.0 Cycle contains.1 (sym contains.2))
 ]
+
+-- ---- formats
+
+pair_fits : (least most : ℕ) → least ≤ 2 → 2 ≤ most → IsRange least most pair
+pair_fits least most low high = record { above = low; ordered = omega arith; small = high }
+
+-- where the member is missing, the format is 1 and the range exactly two
+IsFormat-member : (member : Option Data)
+    → IsFormat (unwrap_or (option_map_or (λ d. range_within 0 4 (elements d)) member (Some pair)) pair) (if is_some member then 2 else 1)
+IsFormat-member None = record { least = omega arith; most = omega arith; pairs = λ _. refl }
+IsFormat-member (Some d) = record { least = omega arith; most = omega arith; pairs = λ one. absurd (omega (arith, one)) }
 
 -- ---- the whole
 
@@ -168,11 +207,13 @@ IsWorkload-workload_in w keeps = record {
   star = number_at-le (codes "star") star_most w;
   shapes = AreChoices-filter_map shape_in name_of_shape (λ d shape is. shape_named-is (text d) shape is) shapes_most (elements_at (codes "shapes") w) (keeps.choices 0 (lit< tt));
   classes = AreChoices-filter_map class_in name_of_class (λ d class is. class_named-is (text d) class is) classes_most (elements_at (codes "classes") w) (keeps.choices 1 (lit< tt));
-  rules = IsRange-range_within rules_most (elements_at (codes "rules") w) (keeps.ranges 0 (lit< tt));
-  conjuncts = IsRange-range_within conjuncts_most (elements_at (codes "conjuncts") w) (keeps.ranges 1 (lit< tt));
-  disjuncts = IsRange-range_within disjuncts_most (elements_at (codes "disjuncts") w) (keeps.ranges 2 (lit< tt));
-  words = IsRange-range_within length_most (elements_at (codes "length") w) (keeps.ranges 3 (lit< tt));
-  cycles = cycles_allowed (elements_at (codes "shapes") w) (conjuncts_in w) keeps.cycles;
+  rules = IsRange-member 1 4 (get (codes "rules") w) (pair_fits 1 4 (omega arith) (omega arith)) (keeps.ranges 0 (lit< tt));
+  conjuncts = IsRange-member 1 8 (get (codes "conjuncts") w) (pair_fits 1 8 (omega arith) (omega arith)) (keeps.ranges 1 (lit< tt));
+  disjuncts = IsRange-member 1 8 (get (codes "disjuncts") w) (pair_fits 1 8 (omega arith) (omega arith)) (keeps.ranges 2 (lit< tt));
+  words = IsRange-member 1 32 (get (codes "length") w) (pair_fits 1 32 (omega arith) (omega arith)) (keeps.ranges 3 (lit< tt));
+  arity = IsRange-member 0 4 (get (codes "arity") w) (pair_fits 0 4 (omega arith) (omega arith)) (keeps.ranges 4 (lit< tt));
+  format = IsFormat-member (get (codes "arity") w);
+  cycles = cycles_allowed (elements_at (codes "shapes") w) (range_at 1 w) keeps.cycles;
 }
 
 workload_there : (d : Data) (o : Option Data) → get (codes "workload") d ≡ o → KeepsWorkloadRules d → IsWorkload (workload_in (unwrap_or o null))

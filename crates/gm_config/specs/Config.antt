@@ -25,6 +25,11 @@ pub record ConfigValue : Type 0 where
   pub constraints : List Constraint
   pub workload : Workload
 
+-- the configuration of its parts
+abbrev pub config_value : ℕ → List NodeType → List (List ℕ) → List Constraint → Workload → ConfigValue
+config_value nodes types labels constraints workload =
+    record { nodes = nodes; types = types; labels = labels; constraints = constraints; workload = workload }
+
 -- the numbers of nodes of its types
 abbrev pub node_counts : ConfigValue → List ℕ
 node_counts c = map (λ t. node_count c.nodes t.amount) c.types

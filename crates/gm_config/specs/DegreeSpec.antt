@@ -9,25 +9,10 @@ use Rattle.std.specs.List.{list_all, list_any, filter_map, All}
 use Rattle.std.specs.Option.{option_or}
 use Rattle.std.specs.Str.{bytes_eq}
 use Rattle.serde_json.specs.Data.{Data}
+use Rattle.gm_config.specs.Limits.{degree_most, exponent_most, weight_most, weights_most}
 use Rattle.gm_config.specs.Json.{text_at, number, number_at, elements_at, has_exactly}
 use Rattle.gm_config.specs.declared.degree_specs.DegreeSpec.{DegreeSpec}
 use Rattle.gm_config.specs.declared.degree_specs.DegreeSpec.TheVariants.{Uniform, Bell, Zipf, Table, Free}
-
--- the greatest degree
-abbrev pub degree_most : ℕ
-degree_most = 100000
-
--- the greatest exponent of a `zipf`
-abbrev pub exponent_most : ℕ
-exponent_most = 3
-
--- the greatest weight
-abbrev pub weight_most : ℕ
-weight_most = 1000000000
-
--- the most weights: one for each degree
-abbrev pub weights_most : ℕ
-weights_most = 100001
 
 -- an object with this kind, these members and no others
 abbrev pub is_of_kind : List ℕ → List (List ℕ) → Data → Bool

@@ -1,4 +1,5 @@
 pub mod Limits
+pub mod CodeLimits
 pub mod Json
 pub mod Rule
 pub mod TypeRules
@@ -9,3 +10,5 @@ pub mod WorkloadRules
 pub mod Rules
 pub mod Config
 pub mod Reading
+pub mod Sample
+pub mod Laws

@@ -1,8 +1,10 @@
 -- The configuration that a value is.
 --   Reads bytes d       JSON has a reading of the bytes, and this is its value
 --   config_of d         the configuration of a value that breaks no rule: the values of its members
+--   IsTextOf bytes c    the bytes are the text of a configuration
+--   BreaksFirst bytes rule index   the value of the bytes breaks this rule first
 --   answer_of d         the answer for a value: its configuration, or the first rule that it breaks
-use Rattle.std.specs.Prelude.{◌≡◌, ℕ, List, map, Some, unwrap_or, Result, Ok, Err, IsUtf8}
+use Rattle.std.specs.Prelude.{◌≡◌, ℕ, List, map, None, Some, unwrap_or, Result, Ok, Err, IsUtf8}
 use Rattle.std.specs.Option.{option_map_or}
 use Rattle.serde_json.specs.Data.{Data}
 use Rattle.serde_json.specs.Read.{read}
@@ -25,6 +27,10 @@ use Rattle.gm_config.specs.declared.values.Constraint.{Constraint}
 pub record Reads (bytes : List ℕ) (d : Data) : Type 0 where
   pub utf8 : IsUtf8 bytes
   pub value : read bytes ≡ Some d
+
+-- JSON has no reading of the bytes
+abbrev pub HasNoReading : List ℕ → Type 0
+HasNoReading bytes = (d : Data) → ¬ Reads bytes d
 
 -- the type that a value is
 abbrev pub type_of : Data → NodeType
@@ -52,4 +58,12 @@ config_of d = record {
 
 -- the answer for a value: its configuration, or the first rule that it breaks, at its first index
 abbrev pub answer_of : Data → Result ConfigValue ConfigError
-answer_of d = option_map_or (λ first. Err (Fault (ConfigFault.Broken record { rule = first.0; index = first.1 }))) (first_broken rules d) (Ok (config_of d))
+answer_of d = option_map_or (λ first. Err (Fault (ConfigFault.Broken first.0 first.1))) (first_broken rules d) (Ok (config_of d))
+
+-- the bytes are the text of a configuration
+abbrev pub IsTextOf : List ℕ → ConfigValue → Type 0
+IsTextOf bytes config = (d : Data) × Reads bytes d × (first_broken rules d ≡ None) × (config ≡ config_of d)
+
+-- the value of the bytes breaks this rule first, at this index
+abbrev pub BreaksFirst : List ℕ → ℕ → ℕ → Type 0
+BreaksFirst bytes rule index = (d : Data) × Reads bytes d × (first_broken rules d ≡ Some (rule, index))

@@ -5,7 +5,9 @@
 --   on_value number test   a rule that is one test of the whole value
 --   has_within most xs     a list has from 1 to so many elements
 --   holds_at test xs i     a test of the element at a place
+--   first_without test xs  the first place whose element fails a test
 --   differs_at same xs i   no earlier element is the same as the one at a place
+--   first_repeat same xs   the first place whose element is the same as an earlier one
 use Rattle.std.specs.Prelude.{ℕ, Bool, false, not, ◌&&◌, nat_le, List, [], ◌∷◌, length, slice_get, take, Option, Some, None, find}
 use Rattle.std.specs.List.{list_any, range_with_len}
 use Rattle.std.specs.Option.{option_map_or}
@@ -38,6 +40,14 @@ has_within most xs = nat_le 1 (length xs) && nat_le (length xs) most
 abbrev pub holds_at : {A : Type 0} → (A → Bool) → List A → ℕ → Bool
 holds_at test xs i = option_map_or test (slice_get xs i) false
 
+-- the first place of a list whose element fails a test
+abbrev pub first_without : {A : Type 0} → (A → Bool) → List A → Option ℕ
+first_without test xs = first_failing (holds_at test xs) (length xs)
+
 -- no earlier element is the same as the one at a place
 abbrev pub differs_at : {A : Type 0} → (A → A → Bool) → List A → ℕ → Bool
 differs_at same xs i = option_map_or (λ x. not (list_any (same x) (take i xs))) (slice_get xs i) false
+
+-- the first place of a list whose element is the same as an earlier one
+abbrev pub first_repeat : {A : Type 0} → (A → A → Bool) → List A → Option ℕ
+first_repeat same xs = first_failing (differs_at same xs) (length xs)

@@ -1,12 +1,13 @@
 -- The workload of a configuration: what is asked of its queries.
 --   shape_named, class_named      the shape or class of a name
 --   are_shapes, are_classes       an array of different names
---   range_within most ds          the two numbers of a range that ends at most there
+--   range_within least most ds    the two numbers of a range that begins and ends within limits
+--   range_at i workload           the range with a number: of rules, conjuncts, disjuncts, length or arity
 --   rule_20 d .. rule_24 d        the rules on the member `workload` of a whole value
 --   KeepsWorkloadRules d          all of them hold
 --   workload_of d                 the workload that the member is
 --   IsWorkload workload           what the rules say of it
-use Rattle.std.specs.Prelude.{◌≡◌, ◌≢◌, ℕ, ◌<◌, ◌≤◌, Bool, true, false, not, ◌&&◌, ◌||◌, ◌==◌, nat_le, List, [], ◌∷◌, length, codes, if◌then◌else◌, Option, Some, None, option_map, option_and_then, unwrap_or, is_some, Contains, AllPairs}
+use Rattle.std.specs.Prelude.{◌≡◌, ◌≢◌, ℕ, ◌<◌, ◌≤◌, Bool, true, false, not, ◌&&◌, ◌||◌, ◌==◌, nat_le, List, [], ◌∷◌, length, slice_get, codes, if◌then◌else◌, Option, Some, None, option_map, option_and_then, unwrap_or, is_some, IfSome, Contains, AllPairs}
 use Rattle.std.specs.List.{list_all, list_any, filter_map}
 use Rattle.std.specs.Option.{option_map_or}
 use Rattle.std.specs.Str.{bytes_eq}
@@ -16,41 +17,11 @@ use Rattle.sel_algebra.specs.declared.vocabulary.Shape.{Shape}
 use Rattle.sel_algebra.specs.declared.vocabulary.Shape.TheVariants.{Chain, Star, Cycle, StarChain}
 use Rattle.sel_algebra.specs.declared.vocabulary.Class.{Class}
 use Rattle.sel_algebra.specs.declared.vocabulary.Class.TheVariants.{Constant, Linear, Quadratic}
-use Rattle.gm_config.specs.Json.{text, number, number_at, elements_at, has_exactly}
+use Rattle.gm_config.specs.Json.{text, number, number_at, elements, elements_at, has_exactly}
+use Rattle.gm_config.specs.Limits.{queries_most, star_most, shapes_most, classes_most, RangeLimits, range_limits}
+use Rattle.gm_config.specs.Rule.{Rule, on_value}
 use Rattle.gm_config.specs.declared.workload_rules.Range.{Range}
 use Rattle.gm_config.specs.declared.workload_rules.Workload.{Workload}
-
--- the most queries
-abbrev pub queries_most : ℕ
-queries_most = 1000
-
--- the greatest share of starred conjuncts, in thousandths
-abbrev pub star_most : ℕ
-star_most = 1000
-
--- the most rules of a query
-abbrev pub rules_most : ℕ
-rules_most = 4
-
--- the most conjuncts of a rule
-abbrev pub conjuncts_most : ℕ
-conjuncts_most = 8
-
--- the most words of a conjunct
-abbrev pub disjuncts_most : ℕ
-disjuncts_most = 8
-
--- the most symbols of a word
-abbrev pub length_most : ℕ
-length_most = 16
-
--- the most shapes
-abbrev pub shapes_most : ℕ
-shapes_most = 4
-
--- the most classes
-abbrev pub classes_most : ℕ
-classes_most = 3
 
 -- ---- shapes and classes
 
@@ -82,39 +53,50 @@ abbrev pub are_different : List Data → Bool
 are_different [] = true
 are_different (d ∷ ds) = not (list_any (λ later. bytes_eq (text later) (text d)) ds) && are_different ds
 
+-- different names of choices, at least one
+abbrev pub are_choices : {A : Type 0} → (Data → Option A) → ℕ → List Data → Bool
+are_choices choice most ds = nat_le 1 (length ds) && nat_le (length ds) most && list_all (λ d. is_some (choice d)) ds && are_different ds
+
 -- different names of shapes, at least one
 abbrev pub are_shapes : List Data → Bool
-are_shapes ds = nat_le 1 (length ds) && nat_le (length ds) shapes_most && list_all (λ d. is_some (shape_in d)) ds && are_different ds
+are_shapes ds = are_choices shape_in shapes_most ds
 
 -- different names of classes, at least one
 abbrev pub are_classes : List Data → Bool
-are_classes ds = nat_le 1 (length ds) && nat_le (length ds) classes_most && list_all (λ d. is_some (class_in d)) ds && are_different ds
+are_classes ds = are_choices class_in classes_most ds
 
 -- ---- ranges
 
--- two numbers, the first at least 1 and at most the second, and the second at most so great
-abbrev pub range_within : ℕ → List Data → Option Range
-range_within most (first ∷ last ∷ []) =
-    option_and_then (λ greatest. option_map (λ least. record { least = least; most = greatest }) (number 1 greatest first)) (number 1 most last)
-range_within most _ = None
+-- two numbers, the first at least so small and at most the second, and the second at most so great
+abbrev pub range_within : ℕ → ℕ → List Data → Option Range
+range_within least most (first ∷ last ∷ []) =
+    option_and_then (λ greatest. option_map (λ smallest. record { least = smallest; most = greatest }) (number least greatest first)) (number least most last)
+range_within least most _ = None
 
-abbrev pub rules_in : Data → Option Range
-rules_in workload = range_within rules_most (elements_at (codes "rules") workload)
+-- exactly two
+abbrev pub pair : Range
+pair = record { least = 2; most = 2 }
 
-abbrev pub conjuncts_in : Data → Option Range
-conjuncts_in workload = range_within conjuncts_most (elements_at (codes "conjuncts") workload)
+-- the range at a member, and exactly two where there is no such member
+abbrev pub range_in : RangeLimits → Data → Option Range
+range_in limits workload = option_map_or (λ d. range_within limits.least limits.most (elements d)) (get limits.name workload) (Some pair)
 
-abbrev pub disjuncts_in : Data → Option Range
-disjuncts_in workload = range_within disjuncts_most (elements_at (codes "disjuncts") workload)
+-- the range under the limits at a place
+abbrev pub range_under : List RangeLimits → ℕ → Data → Option Range
+range_under table i workload = option_and_then (λ limits. range_in limits workload) (slice_get table i)
 
-abbrev pub length_in : Data → Option Range
-length_in workload = range_within length_most (elements_at (codes "length") workload)
+-- the range with a number
+abbrev pub range_at : ℕ → Data → Option Range
+range_at i workload = range_under range_limits i workload
 
 -- ---- the rules on the member's value
 
--- the members of a workload and no others
+-- the members of a workload, of which `arity` may be missing
+abbrev pub members : List (List ℕ)
+members = codes "queries" ∷ codes "shapes" ∷ codes "classes" ∷ codes "star" ∷ codes "rules" ∷ codes "conjuncts" ∷ codes "disjuncts" ∷ codes "length" ∷ []
+
 abbrev pub has_workload_members : Data → Bool
-has_workload_members workload = has_exactly (codes "queries" ∷ codes "shapes" ∷ codes "classes" ∷ codes "star" ∷ codes "rules" ∷ codes "conjuncts" ∷ codes "disjuncts" ∷ codes "length" ∷ []) workload
+has_workload_members workload = has_exactly members workload || has_exactly (codes "arity" ∷ members) workload
 
 -- `queries` and `star` are numbers in their limits
 abbrev pub has_numbers : Data → Bool
@@ -124,16 +106,9 @@ has_numbers workload = is_some (number_at (codes "queries") 0 queries_most workl
 abbrev pub has_choices : ℕ → Data → Bool
 has_choices i workload = if i == 0 then are_shapes (elements_at (codes "shapes") workload) else are_classes (elements_at (codes "classes") workload)
 
--- the range at an index
-abbrev pub range_at : ℕ → Data → Option Range
-range_at i workload = if i == 0 then rules_in workload
-    else (if i == 1 then conjuncts_in workload
-    else (if i == 2 then disjuncts_in workload
-    else length_in workload))
-
 -- there may be two conjuncts
 abbrev pub allows_two_conjuncts : Data → Bool
-allows_two_conjuncts workload = option_map_or (λ range. nat_le 2 range.most) (conjuncts_in workload) false
+allows_two_conjuncts workload = option_map_or (λ range. nat_le 2 range.most) (range_at 1 workload) false
 
 -- where a shape is the cycle, there may be two conjuncts
 abbrev pub allows_cycles : Data → Bool
@@ -145,7 +120,7 @@ pub record KeepsRules (workload : Data) : Type 0 where
   pub members : has_workload_members workload ≡ true
   pub numbers : has_numbers workload ≡ true
   pub choices : (i : ℕ) → i < 2 → has_choices i workload ≡ true
-  pub ranges : (i : ℕ) → i < 4 → is_some (range_at i workload) ≡ true
+  pub ranges : (i : ℕ) → i < length range_limits → is_some (range_at i workload) ≡ true
   pub cycles : allows_cycles workload ≡ true
 
 -- ---- the rules on a whole value
@@ -169,19 +144,32 @@ rule_23 d i = has_workload (λ workload. is_some (range_at i workload)) d
 abbrev pub rule_24 : Data → Bool
 rule_24 d = has_workload allows_cycles d
 
+abbrev pub workload_rules : List Rule
+workload_rules =
+    on_value 20 rule_20
+    ∷ on_value 21 rule_21
+    ∷ record { number = 22; tries = λ d. 2; holds = rule_22 }
+    ∷ record { number = 23; tries = λ d. length range_limits; holds = rule_23 }
+    ∷ on_value 24 rule_24
+    ∷ []
+
 -- the rules hold of a whole value at each index
 pub record KeepsWorkloadRules (d : Data) : Type 0 where
   pub members : rule_20 d ≡ true
   pub numbers : rule_21 d ≡ true
   pub choices : (i : ℕ) → i < 2 → rule_22 d i ≡ true
-  pub ranges : (i : ℕ) → i < 4 → rule_23 d i ≡ true
+  pub ranges : (i : ℕ) → i < length range_limits → rule_23 d i ≡ true
   pub cycles : rule_24 d ≡ true
 
 -- ---- the value
 
--- no range
-abbrev pub no_range : Range
-no_range = record { least = 0; most = 0 }
+-- the range with a number, exactly two where it is none
+abbrev pub range_of : ℕ → Data → Range
+range_of i workload = unwrap_or (range_at i workload) pair
+
+-- the format of its text: 2 where it has the member `arity`, and else 1
+abbrev pub format_of : Data → ℕ
+format_of workload = if is_some (get (codes "arity") workload) then 2 else 1
 
 -- the workload that a value is
 abbrev pub workload_in : Data → Workload
@@ -190,10 +178,12 @@ workload_in workload = record {
   shapes = filter_map shape_in (elements_at (codes "shapes") workload);
   classes = filter_map class_in (elements_at (codes "classes") workload);
   star = unwrap_or (number_at (codes "star") 0 star_most workload) 0;
-  rules = unwrap_or (rules_in workload) no_range;
-  conjuncts = unwrap_or (conjuncts_in workload) no_range;
-  disjuncts = unwrap_or (disjuncts_in workload) no_range;
-  length = unwrap_or (length_in workload) no_range;
+  rules = range_of 0 workload;
+  conjuncts = range_of 1 workload;
+  disjuncts = range_of 2 workload;
+  length = range_of 3 workload;
+  arity = range_of 4 workload;
+  format = format_of workload;
 }
 
 -- the workload that the member `workload` is
@@ -206,11 +196,21 @@ pub record AreChoices {A : Type 0} (most : ℕ) (choices : List A) : Type 0 wher
   pub few : length choices ≤ most
   pub different : AllPairs (λ a b. a ≢ b) choices
 
--- from at least 1 to at most so much
-pub record IsRange (most : ℕ) (range : Range) : Type 0 where
-  pub positive : 1 ≤ range.least
+-- from at least so little to at most so much
+pub record IsRange (least most : ℕ) (range : Range) : Type 0 where
+  pub above : least ≤ range.least
   pub ordered : range.least ≤ range.most
   pub small : range.most ≤ most
+
+-- a range within the limits of the range with a number
+abbrev pub IsRangeAt : ℕ → Range → Type 0
+IsRangeAt i range = IfSome (slice_get range_limits i) (λ limits. IsRange limits.least limits.most range)
+
+-- format 1, in which each query has exactly two heads, or format 2
+pub record IsFormat (arity : Range) (format : ℕ) : Type 0 where
+  pub least : 1 ≤ format
+  pub most : format ≤ 2
+  pub pairs : format ≡ 1 → arity ≡ pair
 
 -- the numbers of a workload are in their limits, and where a shape is the cycle, there may be two conjuncts
 pub record IsWorkload (workload : Workload) : Type 0 where
@@ -218,8 +218,10 @@ pub record IsWorkload (workload : Workload) : Type 0 where
   pub star : workload.star ≤ star_most
   pub shapes : AreChoices shapes_most workload.shapes
   pub classes : AreChoices classes_most workload.classes
-  pub rules : IsRange rules_most workload.rules
-  pub conjuncts : IsRange conjuncts_most workload.conjuncts
-  pub disjuncts : IsRange disjuncts_most workload.disjuncts
-  pub words : IsRange length_most workload.length
+  pub rules : IsRangeAt 0 workload.rules
+  pub conjuncts : IsRangeAt 1 workload.conjuncts
+  pub disjuncts : IsRangeAt 2 workload.disjuncts
+  pub words : IsRangeAt 3 workload.length
+  pub arity : IsRangeAt 4 workload.arity
+  pub format : IsFormat workload.arity workload.format
   pub cycles : Contains workload.shapes Cycle → 2 ≤ workload.conjuncts.most

@@ -3,7 +3,7 @@
 ghost use Rattle.std.specs.Prelude.{◌≡◌, ◌+◌, ◌<◌, ◌≤◌, length, slice_get, slice_index, sum_by, All, Some};
 ghost use Rattle.gm_config.specs.Limits.{nodes_most};
 ghost use Rattle.gm_config.specs.TypeRules.{node_count};
-ghost use Rattle.gm_config.specs.Config.{IsConfig, IsAmount, node_counts, first_node};
+ghost use Rattle.gm_config.specs.Config.{config_value, IsConfig, IsAmount, node_counts, first_node};
 
 use crate::type_rules::node_count;
 use crate::values::{Constraint, NodeType};
@@ -11,7 +11,8 @@ use crate::workload_rules::Workload;
 use gm_text::Name;
 use std::marker::Model;
 
-/// The configuration of a graph and of its queries. It keeps all rules but the one on the members of the value that it was read from.
+/// The configuration of a graph and of its queries. It keeps all rules but the one on the members of the
+/// value that it was read from.
 #[derive(Drop)]
 pub struct Config {
     nodes: u32,
@@ -22,13 +23,13 @@ pub struct Config {
 }
 
 impl Model for Config {
-    ghost use Rattle.gm_config.specs.Config.{ConfigValue, IsConfig};
+    ghost use Rattle.gm_config.specs.Config.{ConfigValue, IsConfig, config_value};
 
     ghost Value = { ConfigValue };
 
-    ghost view = { λ c. record { nodes = c.nodes; types = c.types.items; labels = c.labels.items; constraints = c.constraints.items; workload = c.workload } };
+    ghost view = { λ c. config_value c.nodes c.types.items c.labels.items c.constraints.items c.workload };
 
-    ghost invariant = { λ c. IsConfig record { nodes = c.nodes; types = c.types.items; labels = c.labels.items; constraints = c.constraints.items; workload = c.workload } };
+    ghost invariant = { λ c. IsConfig (config_value c.nodes c.types.items c.labels.items c.constraints.items c.workload) };
 }
 
 impl Config {
@@ -40,8 +41,8 @@ impl Config {
         constraints: Vec<Constraint>,
         workload: Workload,
     ) -> Config
-        requires { IsConfig record { nodes = nodes; types = types.items; labels = labels.items; constraints = constraints.items; workload = workload } }
-        ensures { result ≡ record { nodes = nodes; types = types.items; labels = labels.items; constraints = constraints.items; workload = workload } }
+        requires { IsConfig (config_value nodes types.items labels.items constraints.items workload) }
+        ensures { result ≡ config_value nodes types.items labels.items constraints.items workload }
     {
         Config {
             nodes,
@@ -52,7 +53,15 @@ impl Config {
         }
     }
 
-    /// The number of its types, from 1 to 32.
+    /// The configuration with another number of nodes asked for.
+    pub(crate) fn with_nodes(self, nodes: u32) -> Config
+        requires { IsConfig record self { nodes = nodes } }
+        ensures { result ≡ record self { nodes = nodes } }
+    {
+        Config { nodes, ..self }
+    }
+
+    /// The number of its types, from 1 to 64.
     pub fn type_count(&self) -> u8
         ensures count { result ≡ length self.now.types }
         ensures config { IsConfig self.now }

@@ -1,60 +1,68 @@
 //! The rules on the constraints, which say how the edges with one label go from one type to one type.
 
-ghost use Rattle.std.specs.Prelude.{◌≡◌, ◌<◌, map, length, option_map, unwrap_or, IfSome, position};
-ghost use Rattle.std.specs.List.{list_any};
-ghost use Rattle.std.specs.Str.{bytes_eq};
+ghost use Rattle.std.specs.Prelude.{◌≡◌, ◌<◌, length, option_map, unwrap_or, IfSome};
 ghost use Rattle.serde_json.specs.Data.{null};
 ghost use Rattle.serde_json.specs.Find.{get};
 ghost use Rattle.serde_json.specs.View.{view};
-ghost use Rattle.gm_config.specs.Json.{text};
-ghost use Rattle.gm_config.specs.Rule.{first_failing, first_broken};
-ghost use Rattle.gm_config.specs.TypeRules.{types, type_name};
+ghost use Rattle.std.proofs.Common.{arith};
+ghost use Rattle.gm_config.specs.Limits.{constraints_most};
+ghost use Rattle.gm_config.specs.Rule.{first_broken};
+ghost use Rattle.gm_config.specs.TypeRules.{types};
 ghost use Rattle.gm_config.specs.LabelRules.{labels};
 ghost use Rattle.gm_config.specs.DegreeSpec.{is_degree_spec};
-ghost use Rattle.gm_config.specs.ConstraintRules.{constraint_rules, is_free, has_bound_side, rule_17, rule_18, rule_19, constraints, is_constraint, has_known_names, same_names, source_of, label_of, target_of, type_place, label_place, rule_14, rule_15, rule_16};
+ghost use Rattle.gm_config.specs.ConstraintRules.{constraint_rules, constraints, is_constraint, has_known_names, same_names, has_out_spec, has_in_spec, has_bound_side, is_free, source_of, label_of, target_of, type_place, label_place};
 
 use crate::degree_specs::is_degree_spec;
-use crate::errors::Broken;
-use crate::json::{elements_at, has_exactly, has_within, text, text_at};
-use crate::label_rules::labels;
+use crate::label_rules::Labels;
 use crate::limits::CONSTRAINTS_MOST;
-use crate::type_rules::{type_name, types};
+use crate::members::{elements_at, has_exactly, text, text_at};
+use crate::rule::{Array, Breach, Sameness, Test, first_failing, first_repeated, has_within};
+use crate::type_rules::{Types, type_name};
 use serde_json::Value;
 
 /// The first of the rules 13 to 19 that the value breaks, at its first index.
-pub(crate) fn first_broken_constraint_rule(value: &Value) -> Option<Broken>
+pub(crate) fn first_broken_constraint_rule(value: &Value) -> Option<Breach>
     ensures { option_map (λ b. (b.rule, b.index)) result ≡ first_broken constraint_rules (view value.now) }
 {
-    if !has_within(constraints(value), CONSTRAINTS_MOST) {
-        return Some(Broken { rule: 13, index: 0 });
+    if !has_within::<Constraints>(value) {
+        return Some(Breach { rule: 13, index: 0 });
     }
-    let count = constraints(value).len() as u32;
-    if let Some(index) = first_misshapen_constraint(value, count) {
-        return Some(Broken { rule: 14, index });
+    if let Some(index) = first_failing::<IsConstraint>(value) {
+        return Some(Breach { rule: 14, index });
     }
-    if let Some(index) = first_with_unknown_name(value, count) {
-        return Some(Broken { rule: 15, index });
+    if let Some(index) = first_failing::<HasKnownNames>(value) {
+        return Some(Breach { rule: 15, index });
     }
-    if let Some(index) = first_repeated_constraint(value, count) {
-        return Some(Broken { rule: 16, index });
+    if let Some(index) = first_repeated::<ConstraintNames>(value) {
+        return Some(Breach { rule: 16, index });
     }
-    if let Some(index) = first_without_out_spec(value, count) {
-        return Some(Broken { rule: 17, index });
+    if let Some(index) = first_failing::<HasOutSpec>(value) {
+        return Some(Breach { rule: 17, index });
     }
-    if let Some(index) = first_without_in_spec(value, count) {
-        return Some(Broken { rule: 18, index });
+    if let Some(index) = first_failing::<HasInSpec>(value) {
+        return Some(Breach { rule: 18, index });
     }
-    if let Some(index) = first_without_bound_side(value, count) {
-        return Some(Broken { rule: 19, index });
+    if let Some(index) = first_failing::<HasBoundSide>(value) {
+        return Some(Breach { rule: 19, index });
     }
     None
 }
 
 /// The constraints of a configuration.
-pub(crate) fn constraints(value: &Value) -> &[Value]
-    ensures { map view result.now ≡ constraints (view value.now) }
-{
-    elements_at(value, "constraints")
+pub(crate) struct Constraints;
+
+impl Array for Constraints {
+    ghost elements = { constraints };
+
+    ghost MOST = { constraints_most };
+
+    const MOST: u32 = CONSTRAINTS_MOST;
+
+    fn elements(value: &Value) -> &[Value] {
+        elements_at(value, "constraints")
+    }
+
+    ghost small = { omega arith };
 }
 
 /// The name of a constraint's source type.
@@ -83,13 +91,7 @@ pub(crate) fn type_place(value: &Value, name: &[u8]) -> Option<usize>
     ensures place { result ≡ type_place (view value.now) name.now }
     ensures bound { IfSome result (λ place. place < length (types (view value.now))) }
 {
-    place_among_types(types(value), name)
-}
-
-fn place_among_types(types: &[Value], name: &[u8]) -> Option<usize>
-    ensures place { result ≡ position (λ t. bytes_eq (type_name (view t)) name.now) types.now }
-    ensures bound { IfSome result (λ place. place < length types.now) }
-{
+    let types = Types::elements(value);
     types.iter().position(|t| type_name(t) == name)
 }
 
@@ -98,119 +100,89 @@ pub(crate) fn label_place(value: &Value, name: &[u8]) -> Option<usize>
     ensures place { result ≡ label_place (view value.now) name.now }
     ensures bound { IfSome result (λ place. place < length (labels (view value.now))) }
 {
-    place_among_labels(labels(value), name)
-}
-
-fn place_among_labels(labels: &[Value], name: &[u8]) -> Option<usize>
-    ensures place { result ≡ position (λ l. bytes_eq (text (view l)) name.now) labels.now }
-    ensures bound { IfSome result (λ place. place < length labels.now) }
-{
+    let labels = Labels::elements(value);
     labels.iter().position(|label| text(label) == name)
 }
 
-fn first_misshapen_constraint(value: &Value, count: u32) -> Option<u32>
-    ensures { result ≡ first_failing (rule_14 (view value.now)) count }
-{
-    (0..count).find(|i| !is_constraint_at(value, *i))
-}
+/// A constraint is an object with exactly its members.
+struct IsConstraint;
 
-fn is_constraint_at(value: &Value, i: u32) -> bool
-    ensures { result ≡ rule_14 (view value.now) i }
-{
-    match constraints(value).get(i as usize) {
-        Some(constraint) => is_constraint(constraint),
-        None => false,
+impl Test for IsConstraint {
+    type Of = Constraints;
+
+    ghost test = { λ _ c. is_constraint c };
+
+    fn passes(_: &Value, constraint: &Value) -> bool {
+        has_exactly(constraint, &["source", "label", "target", "out", "in"])
     }
 }
 
-fn is_constraint(constraint: &Value) -> bool
-    ensures { result ≡ is_constraint (view constraint.now) }
-{
-    has_exactly(constraint, &["source", "label", "target", "out", "in"])
-}
+/// A constraint's ends name types, and its label names a label.
+struct HasKnownNames;
 
-fn first_with_unknown_name(value: &Value, count: u32) -> Option<u32>
-    ensures { result ≡ first_failing (rule_15 (view value.now)) count }
-{
-    (0..count).find(|i| !has_known_names_at(value, *i))
-}
+impl Test for HasKnownNames {
+    type Of = Constraints;
 
-fn has_known_names_at(value: &Value, i: u32) -> bool
-    ensures { result ≡ rule_15 (view value.now) i }
-{
-    match constraints(value).get(i as usize) {
-        Some(constraint) => has_known_names(value, constraint),
-        None => false,
+    ghost test = { has_known_names };
+
+    fn passes(value: &Value, constraint: &Value) -> bool {
+        type_place(value, source_of(constraint)).is_some()
+            && label_place(value, label_of(constraint)).is_some()
+            && type_place(value, target_of(constraint)).is_some()
     }
 }
 
-fn has_known_names(value: &Value, constraint: &Value) -> bool
-    ensures { result ≡ has_known_names (view value.now) (view constraint.now) }
-{
-    type_place(value, source_of(constraint)).is_some()
-        && label_place(value, label_of(constraint)).is_some()
-        && type_place(value, target_of(constraint)).is_some()
-}
+/// Two constraints have one source, one label and one target.
+struct ConstraintNames;
 
-fn first_repeated_constraint(value: &Value, count: u32) -> Option<u32>
-    ensures { result ≡ first_failing (rule_16 (view value.now)) count }
-{
-    (0..count).find(|i| !differs_at(value, *i))
-}
+impl Sameness for ConstraintNames {
+    type Of = Constraints;
 
-fn differs_at(value: &Value, i: u32) -> bool
-    ensures { result ≡ rule_16 (view value.now) i }
-{
-    let constraints = constraints(value);
-    match constraints.get(i as usize) {
-        Some(constraint) => !is_among(constraint, &constraints[..i as usize]),
-        None => false,
+    ghost same = { same_names };
+
+    fn are_same(one: &Value, other: &Value) -> bool {
+        source_of(one) == source_of(other)
+            && label_of(one) == label_of(other)
+            && target_of(one) == target_of(other)
     }
 }
 
-fn is_among(constraint: &Value, constraints: &[Value]) -> bool
-    ensures { result ≡ list_any (λ other. same_names (view constraint.now) (view other)) constraints.now }
-{
-    constraints
-        .iter()
-        .any(|other| has_same_names(constraint, other))
-}
+/// A constraint's out side has a degree specification.
+struct HasOutSpec;
 
-fn has_same_names(one: &Value, other: &Value) -> bool
-    ensures { result ≡ same_names (view one.now) (view other.now) }
-{
-    source_of(one) == source_of(other)
-        && label_of(one) == label_of(other)
-        && target_of(one) == target_of(other)
-}
+impl Test for HasOutSpec {
+    type Of = Constraints;
 
-fn first_without_out_spec(value: &Value, count: u32) -> Option<u32>
-    ensures { result ≡ first_failing (rule_17 (view value.now)) count }
-{
-    (0..count).find(|i| !has_out_spec_at(value, *i))
-}
+    ghost test = { λ _ c. has_out_spec c };
 
-fn has_out_spec_at(value: &Value, i: u32) -> bool
-    ensures { result ≡ rule_17 (view value.now) i }
-{
-    match constraints(value).get(i as usize) {
-        Some(constraint) => has_spec(constraint, "out"),
-        None => false,
+    fn passes(_: &Value, constraint: &Value) -> bool {
+        has_spec(constraint, "out")
     }
 }
 
-fn first_without_in_spec(value: &Value, count: u32) -> Option<u32>
-    ensures { result ≡ first_failing (rule_18 (view value.now)) count }
-{
-    (0..count).find(|i| !has_in_spec_at(value, *i))
+/// A constraint's in side has a degree specification.
+struct HasInSpec;
+
+impl Test for HasInSpec {
+    type Of = Constraints;
+
+    ghost test = { λ _ c. has_in_spec c };
+
+    fn passes(_: &Value, constraint: &Value) -> bool {
+        has_spec(constraint, "in")
+    }
 }
 
-fn has_in_spec_at(value: &Value, i: u32) -> bool
-    ensures { result ≡ rule_18 (view value.now) i }
-{
-    match constraints(value).get(i as usize) {
-        Some(constraint) => has_spec(constraint, "in"),
-        None => false,
+/// One of a constraint's two sides is not free.
+struct HasBoundSide;
+
+impl Test for HasBoundSide {
+    type Of = Constraints;
+
+    ghost test = { λ _ c. has_bound_side c };
+
+    fn passes(_: &Value, constraint: &Value) -> bool {
+        !(is_free(constraint, "out") && is_free(constraint, "in"))
     }
 }
 
@@ -221,27 +193,6 @@ fn has_spec(constraint: &Value, side: &str) -> bool
         Some(spec) => is_degree_spec(spec),
         None => false,
     }
-}
-
-fn first_without_bound_side(value: &Value, count: u32) -> Option<u32>
-    ensures { result ≡ first_failing (rule_19 (view value.now)) count }
-{
-    (0..count).find(|i| !has_bound_side_at(value, *i))
-}
-
-fn has_bound_side_at(value: &Value, i: u32) -> bool
-    ensures { result ≡ rule_19 (view value.now) i }
-{
-    match constraints(value).get(i as usize) {
-        Some(constraint) => has_bound_side(constraint),
-        None => false,
-    }
-}
-
-fn has_bound_side(constraint: &Value) -> bool
-    ensures { result ≡ has_bound_side (view constraint.now) }
-{
-    !(is_free(constraint, "out") && is_free(constraint, "in"))
 }
 
 fn is_free(constraint: &Value, side: &str) -> bool

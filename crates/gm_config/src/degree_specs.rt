@@ -5,21 +5,14 @@ ghost use Rattle.std.specs.List.{list_all, list_any};
 ghost use Rattle.std.specs.Str.{bytes_eq};
 ghost use Rattle.serde_json.specs.View.{view};
 ghost use Rattle.gm_config.specs.Json.{text_at, number, number_at, has_exactly};
-ghost use Rattle.gm_config.specs.DegreeSpec.{exponent_most, weight_most, weights_most, uniform_in, bell_in, zipf_in, zipf_to_max_in, free_in, plain_in, are_weights, weights_of, table_in, is_degree_spec, degree_spec_of};
+ghost use Rattle.gm_config.specs.Limits.{exponent_most, weight_most, weights_most};
+ghost use Rattle.gm_config.specs.DegreeSpec.{uniform_in, bell_in, zipf_in, zipf_to_max_in, free_in, plain_in, are_weights, weights_of, table_in, is_degree_spec, degree_spec_of};
 
-use crate::json::{elements_at, has_exactly, number, number_at, text_at};
+use crate::limits::{DEGREE_MOST, EXPONENT_MOST, WEIGHT_MOST, WEIGHTS_MOST};
+use crate::members::{elements_at, has_exactly, number, number_at, text_at};
 use gm_text::Items;
 use serde_json::Value;
 use std::alloc::{AllocError, Global};
-
-/// The greatest degree.
-pub const DEGREE_MOST: u32 = 100_000;
-/// The greatest exponent of a Zipfian specification.
-pub const EXPONENT_MOST: u32 = 3;
-/// The greatest weight of a degree.
-pub const WEIGHT_MOST: u32 = 1_000_000_000;
-/// The most weights of a table: one for each degree from 0.
-pub const WEIGHTS_MOST: usize = 100_001;
 
 /// The weights of the degrees from 0 on.
 pub type Weights = Items<u32>;
@@ -32,7 +25,7 @@ pub enum DegreeSpec {
     /// A degree at most `width` away from `center`, the nearer the likelier.
     Bell { center: u32, width: u32 },
     /// A degree k from 1 to `max`, with a weight as `1 / k^exponent`. With no `max` it is the number of
-    /// nodes of the type at the other side, or the nearest number from 1 to [`DEGREE_MOST`].
+    /// nodes of the type at the other side, or the nearest number from 1 to [`DEGREE_MOST`](crate::DEGREE_MOST).
     Zipf { exponent: u8, max: Option<u32> },
     /// The degree i with the weight at place i.
     Table { weights: Weights },
@@ -174,31 +167,24 @@ fn is_of_kind(value: &Value, kind: &str, members: &[&str]) -> bool
 fn are_weights(values: &[Value]) -> bool
     ensures { result ≡ are_weights (map view values.now) }
 {
-    has_weight_count(values) && are_numbers(values) && has_positive(values)
-}
-
-fn has_weight_count(values: &[Value]) -> bool
-    ensures { result ≡ (nat_le 1 (length values.now) && nat_le (length values.now) weights_most) }
-{
-    1 <= values.len() && values.len() <= WEIGHTS_MOST
+    let count = values.len();
+    1 <= count && count <= WEIGHTS_MOST && are_numbers(values) && has_positive(values)
 }
 
 fn are_numbers(values: &[Value]) -> bool
     ensures { result ≡ list_all (λ value. is_some (number 0 weight_most (view value))) values.now }
 {
-    values.iter().all(|value| is_number(value, 0, WEIGHT_MOST))
+    values
+        .iter()
+        .all(|value| number(value, 0, WEIGHT_MOST).is_some())
 }
 
 fn has_positive(values: &[Value]) -> bool
     ensures { result ≡ list_any (λ value. is_some (number 1 weight_most (view value))) values.now }
 {
-    values.iter().any(|value| is_number(value, 1, WEIGHT_MOST))
-}
-
-fn is_number(value: &Value, least: u32, most: u32) -> bool
-    ensures { result ≡ is_some (number least most (view value.now)) }
-{
-    number(value, least, most).is_some()
+    values
+        .iter()
+        .any(|value| number(value, 1, WEIGHT_MOST).is_some())
 }
 
 fn read_weights(alloc: Global, values: &[Value]) -> Result<Vec<u32>, AllocError>

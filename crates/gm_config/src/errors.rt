@@ -5,22 +5,14 @@ ghost use Rattle.std.specs.Prelude.{◌≡◌};
 use std::alloc::AllocError;
 use thiserror::Error;
 
-/// The first rule that a value breaks.
-#[derive(Clone, Copy, Debug, PartialEq, Eq)]
-pub struct Broken {
-    /// The number of the rule, from 1 to 24.
-    pub rule: u8,
-    /// The first index at which it is broken, 0 where the rule has one index.
-    pub index: u32,
-}
-
 /// What is wrong with an input.
 #[derive(Clone, Copy, Debug, PartialEq, Eq)]
 pub enum ConfigFault {
     /// The input is no JSON.
     NotJson,
-    /// Its value breaks a rule.
-    Broken(Broken),
+    /// Its value breaks a rule: the first that it breaks, from 1 to 24, and the first index at which it
+    /// does, 0 where the rule has one index.
+    Broken { rule: u8, index: u32 },
 }
 
 /// Why a configuration was not read.

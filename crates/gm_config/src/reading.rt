@@ -1,6 +1,6 @@
 //! Reading a configuration.
 
-ghost use Rattle.std.specs.Prelude.{◌≡◌, ◌≢◌, ◌≤◌, true, map, length, unwrap_or, None, Some, Err, IfOk, All};
+ghost use Rattle.std.specs.Prelude.{◌≡◌, ◌≢◌, ℕ, ◌≤◌, true, map, length, unwrap_or, None, Some, Err, IfOk, All};
 ghost use Rattle.serde_json.specs.Data.{Data, null};
 ghost use Rattle.serde_json.specs.Find.{get};
 ghost use Rattle.serde_json.specs.View.{view};
@@ -14,22 +14,21 @@ ghost use Rattle.gm_config.specs.LabelRules.{labels};
 ghost use Rattle.gm_config.specs.DegreeSpec.{is_degree_spec, degree_spec_of};
 ghost use Rattle.gm_config.specs.ConstraintRules.{has_out_spec, has_in_spec, type_place, label_place};
 ghost use Rattle.serde_json.specs.Errors.{IsMemory};
-ghost use Rattle.gm_config.specs.declared.errors.Broken.{Broken};
 ghost use Rattle.gm_config.specs.declared.errors.ConfigError.TheVariants.{Fault, NoMemory};
-ghost use Rattle.gm_config.specs.declared.errors.ConfigFault.TheVariants.{NotJson};
-ghost use Rattle.gm_config.specs.declared.errors.ConfigFault;
-ghost use Rattle.gm_config.specs.Reading.{Reads, type_of, constraint_of, config_of, answer_of};
+ghost use Rattle.gm_config.specs.declared.errors.ConfigFault.TheVariants.{NotJson, Broken};
+ghost use Rattle.gm_config.specs.Reading.{Reads, HasNoReading, IsTextOf, BreaksFirst, type_of, constraint_of, config_of, answer_of};
 
 use crate::config::Config;
 use crate::constraint_rules::{
-    constraints, label_of, label_place, source_of, target_of, type_place,
+    Constraints, label_of, label_place, source_of, target_of, type_place,
 };
 use crate::degree_specs::{DegreeSpec, read_degree_spec};
 use crate::errors::{ConfigError, ConfigFault};
-use crate::json::text;
-use crate::label_rules::labels;
+use crate::label_rules::Labels;
+use crate::members::text;
+use crate::rule::{Array, Breach};
 use crate::rules::first_broken_rule;
-use crate::type_rules::{amount_of, nodes_of, type_name, types};
+use crate::type_rules::{Types, amount_of, nodes_of, type_name};
 use crate::values::{Amount, Constraint, NodeType};
 use crate::workload_rules::read_workload;
 use gm_text::Name;
@@ -43,19 +42,18 @@ use std::alloc::{AllocError, Global};
 /// 1 to 24 that is broken and its first index, where each rule is tried at all its indices before the next.
 /// [`NoMemory`](ConfigError::NoMemory) can come in place of each answer.
 pub fn read_config(alloc: Global, bytes: &[u8]) -> Result<Config, ConfigError>
-    ensures ok { IfOk result (λ config. (d : Data) × Reads bytes.now d × (first_broken rules d ≡ None) × (config ≡ config_of d)) }
-    ensures broken { (b : Broken) → result ≡ Err (Fault (ConfigFault.Broken b))
-        → (d : Data) × Reads bytes.now d × (first_broken rules d ≡ Some (b.rule, b.index)) }
-    ensures not_json { result ≡ Err (Fault NotJson) → (d : Data) → Reads bytes.now d → ⊥ }
+    ensures ok { IfOk result (λ config. IsTextOf bytes.now config) }
+    ensures broken { (rule index : ℕ) → result ≡ Err (Fault (Broken rule index)) → BreaksFirst bytes.now rule index }
+    ensures not_json { result ≡ Err (Fault NotJson) → HasNoReading bytes.now }
     ensures answer { (d : Data) → Reads bytes.now d → result ≢ Err NoMemory → result ≡ answer_of d }
-    ensures no_reading { ((d : Data) → Reads bytes.now d → ⊥) → result ≢ Err NoMemory → result ≡ Err (Fault NotJson) }
+    ensures no_reading { HasNoReading bytes.now → result ≢ Err NoMemory → result ≡ Err (Fault NotJson) }
 {
     let value = match Value::from_slice(alloc, bytes) {
         Ok(value) => value,
         Err(error) => return Err(refusal(&error)),
     };
-    if let Some(broken) = first_broken_rule(&value) {
-        return Err(ConfigError::Fault(ConfigFault::Broken(broken)));
+    if let Some(Breach { rule, index }) = first_broken_rule(&value) {
+        return Err(ConfigError::Fault(ConfigFault::Broken { rule, index }));
     }
     let config = config_of(alloc, &value)?;
     Ok(config)
@@ -75,9 +73,9 @@ fn config_of(alloc: Global, value: &Value) -> Result<Config, AllocError>
     requires { first_broken rules (view value.now) ≡ None }
     ensures { IfOk result (λ config. config ≡ config_of (view value.now)) }
 {
-    let types = read_types(alloc, types(value))?;
-    let labels = read_labels(alloc, labels(value))?;
-    let constraints = read_constraints(alloc, value, constraints(value))?;
+    let types = read_types(alloc, Types::elements(value))?;
+    let labels = read_labels(alloc, Labels::elements(value))?;
+    let constraints = read_constraints(alloc, value, Constraints::elements(value))?;
     let workload = read_workload(alloc, value)?;
     Ok(Config::of(
         nodes_of(value).unwrap_or(0),
@@ -128,7 +126,7 @@ fn read_constraints(
     requires labels { length (labels (view value.now)) ≤ labels_most }
     requires out_specs { All (λ c. has_out_spec (view c) ≡ true) constraints.now }
     requires in_specs { All (λ c. has_in_spec (view c) ≡ true) constraints.now }
-    ensures { IfOk result (λ read. read.items ≡ map (λ c. constraint_of (view value.now) (view c)) constraints.now) }
+    ensures { IfOk result (λ read. read.items ≡ map (λ k. constraint_of (view value.now) (view k)) constraints.now) }
 {
     let mut read = Vec::new(alloc);
     for constraint in constraints {
@@ -149,32 +147,12 @@ fn read_constraint(
     ensures { IfOk result (λ read. read ≡ constraint_of (view value.now) (view constraint.now)) }
 {
     Ok(Constraint {
-        source: type_number(value, source_of(constraint)),
-        label: label_number(value, label_of(constraint)),
-        target: type_number(value, target_of(constraint)),
+        source: type_place(value, source_of(constraint)).unwrap_or(0) as u8,
+        label: label_place(value, label_of(constraint)).unwrap_or(0) as u8,
+        target: type_place(value, target_of(constraint)).unwrap_or(0) as u8,
         out_spec: read_spec(alloc, constraint, "out")?,
         in_spec: read_spec(alloc, constraint, "in")?,
     })
-}
-
-fn type_number(value: &Value, name: &[u8]) -> u8
-    requires { length (types (view value.now)) ≤ types_most }
-    ensures { result ≡ unwrap_or (type_place (view value.now) name.now) 0 }
-{
-    match type_place(value, name) {
-        Some(place) => place as u8,
-        None => 0,
-    }
-}
-
-fn label_number(value: &Value, name: &[u8]) -> u8
-    requires { length (labels (view value.now)) ≤ labels_most }
-    ensures { result ≡ unwrap_or (label_place (view value.now) name.now) 0 }
-{
-    match label_place(value, name) {
-        Some(place) => place as u8,
-        None => 0,
-    }
 }
 
 fn read_spec(alloc: Global, constraint: &Value, side: &str) -> Result<DegreeSpec, AllocError>

@@ -1,53 +1,52 @@
 //! The rules on the number of nodes and the types of nodes.
 
 ghost use Rattle.std.specs.Prelude.{◌≡◌, ◌≤◌, map, sum_by, nat_le, option_map};
-ghost use Rattle.std.specs.List.{list_any};
 ghost use Rattle.serde_json.specs.View.{view};
-ghost use Rattle.gm_config.specs.Limits.{nodes_most, thousand};
-ghost use Rattle.gm_config.specs.Rule.{first_failing, first_broken};
-ghost use Rattle.gm_config.specs.TypeRules.{type_rules, nodes_of, types, type_name, is_type, is_named_type, same_type_name, amount_of, share, type_share, node_count, type_nodes, rule_4, rule_5, rule_6, rule_7};
+ghost use Rattle.std.proofs.Common.{arith};
+ghost use Rattle.gm_config.specs.Limits.{nodes_most, types_most, thousand};
+ghost use Rattle.gm_config.specs.Rule.{first_broken};
+ghost use Rattle.gm_config.specs.TypeRules.{type_rules, rule_8, nodes_of, types, type_name, is_type, is_named_type, same_type_name, has_amount, amount_of, share, type_share, node_count, type_nodes};
 
-use crate::errors::Broken;
-use crate::json::{elements_at, has_exactly, has_within, number_at, text_at};
 use crate::limits::{NODES_MOST, THOUSAND, TYPES_MOST};
+use crate::members::{elements_at, has_exactly, number_at, text_at};
+use crate::rule::{Array, Breach, Sameness, Test, first_failing, first_repeated, has_within};
 use crate::values::Amount;
 use gm_text::is_name;
 use serde_json::Value;
 
 /// The first of the rules 1 to 9 that the value breaks, at its first index.
-pub(crate) fn first_broken_type_rule(value: &Value) -> Option<Broken>
+pub(crate) fn first_broken_type_rule(value: &Value) -> Option<Breach>
     ensures { option_map (λ b. (b.rule, b.index)) result ≡ first_broken type_rules (view value.now) }
 {
     if !has_exactly(
         value,
         &["nodes", "types", "labels", "constraints", "workload"],
     ) {
-        return Some(Broken { rule: 1, index: 0 });
+        return Some(Breach { rule: 1, index: 0 });
     }
     let Some(nodes) = nodes_of(value) else {
-        return Some(Broken { rule: 2, index: 0 });
+        return Some(Breach { rule: 2, index: 0 });
     };
-    if !has_within(types(value), TYPES_MOST) {
-        return Some(Broken { rule: 3, index: 0 });
+    if !has_within::<Types>(value) {
+        return Some(Breach { rule: 3, index: 0 });
     }
-    let count = types(value).len() as u32;
-    if let Some(index) = first_misshapen_type(value, count) {
-        return Some(Broken { rule: 4, index });
+    if let Some(index) = first_failing::<IsType>(value) {
+        return Some(Breach { rule: 4, index });
     }
-    if let Some(index) = first_unnamed_type(value, count) {
-        return Some(Broken { rule: 5, index });
+    if let Some(index) = first_failing::<IsNamedType>(value) {
+        return Some(Breach { rule: 5, index });
     }
-    if let Some(index) = first_repeated_type(value, count) {
-        return Some(Broken { rule: 6, index });
+    if let Some(index) = first_repeated::<TypeName>(value) {
+        return Some(Breach { rule: 6, index });
     }
-    if let Some(index) = first_type_without_amount(value, count) {
-        return Some(Broken { rule: 7, index });
+    if let Some(index) = first_failing::<HasAmount>(value) {
+        return Some(Breach { rule: 7, index });
     }
-    if !have_shares_within(types(value)) {
-        return Some(Broken { rule: 8, index: 0 });
+    if !have_shares_within(value) {
+        return Some(Breach { rule: 8, index: 0 });
     }
-    if !have_nodes_within(types(value), nodes) {
-        return Some(Broken { rule: 9, index: 0 });
+    if !have_nodes_within(value, nodes) {
+        return Some(Breach { rule: 9, index: 0 });
     }
     None
 }
@@ -60,80 +59,20 @@ pub(crate) fn nodes_of(value: &Value) -> Option<u32>
 }
 
 /// The types of a configuration.
-pub(crate) fn types(value: &Value) -> &[Value]
-    ensures { map view result.now ≡ types (view value.now) }
-{
-    elements_at(value, "types")
-}
+pub(crate) struct Types;
 
-fn first_misshapen_type(value: &Value, count: u32) -> Option<u32>
-    ensures { result ≡ first_failing (rule_4 (view value.now)) count }
-{
-    (0..count).find(|i| !is_type_at(value, *i))
-}
+impl Array for Types {
+    ghost elements = { types };
 
-fn is_type_at(value: &Value, i: u32) -> bool
-    ensures { result ≡ rule_4 (view value.now) i }
-{
-    match types(value).get(i as usize) {
-        Some(value) => is_type(value),
-        None => false,
+    ghost MOST = { types_most };
+
+    const MOST: u32 = TYPES_MOST;
+
+    fn elements(value: &Value) -> &[Value] {
+        elements_at(value, "types")
     }
-}
 
-fn is_type(value: &Value) -> bool
-    ensures { result ≡ is_type (view value.now) }
-{
-    has_exactly(value, &["name", "share"]) || has_exactly(value, &["name", "count"])
-}
-
-fn first_unnamed_type(value: &Value, count: u32) -> Option<u32>
-    ensures { result ≡ first_failing (rule_5 (view value.now)) count }
-{
-    (0..count).find(|i| !is_named_at(value, *i))
-}
-
-fn is_named_at(value: &Value, i: u32) -> bool
-    ensures { result ≡ rule_5 (view value.now) i }
-{
-    match types(value).get(i as usize) {
-        Some(value) => is_named_type(value),
-        None => false,
-    }
-}
-
-fn is_named_type(value: &Value) -> bool
-    ensures { result ≡ is_named_type (view value.now) }
-{
-    is_name(type_name(value))
-}
-
-fn first_repeated_type(value: &Value, count: u32) -> Option<u32>
-    ensures { result ≡ first_failing (rule_6 (view value.now)) count }
-{
-    (0..count).find(|i| !differs_at(value, *i))
-}
-
-fn differs_at(value: &Value, i: u32) -> bool
-    ensures { result ≡ rule_6 (view value.now) i }
-{
-    let types = types(value);
-    match types.get(i as usize) {
-        Some(value) => !is_among(value, &types[..i as usize]),
-        None => false,
-    }
-}
-
-fn is_among(value: &Value, types: &[Value]) -> bool
-    ensures { result ≡ list_any (λ other. same_type_name (view value.now) (view other)) types.now }
-{
-    types.iter().any(|other| has_same_name(value, other))
-}
-
-fn has_same_name(one: &Value, other: &Value) -> bool
-    ensures { result ≡ same_type_name (view one.now) (view other.now) }
-{
-    type_name(one) == type_name(other)
+    ghost small = { omega arith };
 }
 
 /// The name of a type.
@@ -143,18 +82,55 @@ pub(crate) fn type_name(value: &Value) -> &[u8]
     text_at(value, "name")
 }
 
-fn first_type_without_amount(value: &Value, count: u32) -> Option<u32>
-    ensures { result ≡ first_failing (rule_7 (view value.now)) count }
-{
-    (0..count).find(|i| !has_amount_at(value, *i))
+/// A type is an object with exactly a name and a share, or a name and a count.
+struct IsType;
+
+impl Test for IsType {
+    type Of = Types;
+
+    ghost test = { λ _ t. is_type t };
+
+    fn passes(_: &Value, value: &Value) -> bool {
+        has_exactly(value, &["name", "share"]) || has_exactly(value, &["name", "count"])
+    }
 }
 
-fn has_amount_at(value: &Value, i: u32) -> bool
-    ensures { result ≡ rule_7 (view value.now) i }
-{
-    match types(value).get(i as usize) {
-        Some(value) => amount_of(value).is_some(),
-        None => false,
+/// A type's name is a name.
+struct IsNamedType;
+
+impl Test for IsNamedType {
+    type Of = Types;
+
+    ghost test = { λ _ t. is_named_type t };
+
+    fn passes(_: &Value, value: &Value) -> bool {
+        is_name(type_name(value))
+    }
+}
+
+/// Two types have one name.
+struct TypeName;
+
+impl Sameness for TypeName {
+    type Of = Types;
+
+    ghost same = { same_type_name };
+
+    fn are_same(one: &Value, other: &Value) -> bool {
+        type_name(one) == type_name(other)
+    }
+}
+
+/// A type's share or count is a number in its limits.
+struct HasAmount;
+
+impl Test for HasAmount {
+    type Of = Types;
+
+    ghost test = { λ _ t. has_amount t };
+
+    fn passes(_: &Value, value: &Value) -> bool {
+        amount_of(value).is_some()
     }
 }
 
@@ -171,7 +147,13 @@ pub(crate) fn amount_of(value: &Value) -> Option<Amount>
     }
 }
 
-fn have_shares_within(types: &[Value]) -> bool
+fn have_shares_within(value: &Value) -> bool
+    ensures { result ≡ rule_8 (view value.now) }
+{
+    are_shares_within(Types::elements(value))
+}
+
+fn are_shares_within(types: &[Value]) -> bool
     ensures { result ≡ nat_le (sum_by type_share (map view types.now)) thousand }
 {
     let mut left = THOUSAND;
@@ -194,7 +176,14 @@ fn type_share(value: &Value) -> u32
     }
 }
 
-fn have_nodes_within(types: &[Value], nodes: u32) -> bool
+fn have_nodes_within(value: &Value, nodes: u32) -> bool
+    requires { nodes ≤ nodes_most }
+    ensures { result ≡ nat_le (sum_by (type_nodes nodes) (types (view value.now))) nodes_most }
+{
+    are_nodes_within(Types::elements(value), nodes)
+}
+
+fn are_nodes_within(types: &[Value], nodes: u32) -> bool
     requires { nodes ≤ nodes_most }
     ensures { result ≡ nat_le (sum_by (type_nodes nodes) (map view types.now)) nodes_most }
 {

@@ -1,34 +1,26 @@
 //! The workload of a configuration: what is asked of its queries.
 
-ghost use Rattle.std.specs.Prelude.{◌≡◌, ◌≤◌, ◌&&◌, nat_le, true, length, map, is_some, unwrap_or, IfOk};
-ghost use Rattle.std.specs.List.{list_all, list_any, filter_map};
+ghost use Rattle.std.specs.Prelude.{◌≡◌, ◌≤◌, ◌&&◌, nat_le, true, Option, length, map, slice_get, option_and_then, codes, option_map, is_some, unwrap_or, IfOk};
+ghost use Rattle.std.specs.List.{All, list_all, list_any, filter_map};
 ghost use Rattle.std.specs.Str.{bytes_eq};
+ghost use Rattle.serde_json.specs.Data.{Data};
+ghost use Rattle.serde_json.specs.Find.{get};
 ghost use Rattle.serde_json.specs.View.{view};
 ghost use Rattle.gm_config.specs.Json.{text, number_at};
-ghost use Rattle.gm_config.specs.WorkloadRules.{shape_in, class_in, are_different, are_shapes, are_classes, range_within, has_workload_members, has_numbers, has_choices, range_at, allows_two_conjuncts, allows_cycles, rule_20, rule_21, rule_22, rule_23, rule_24, KeepsWorkloadRules, KeepsRules, no_range, workload_in, workload_of};
+ghost use Rattle.gm_config.specs.Limits.{range_limits};
+ghost use Rattle.gm_config.specs.Rule.{first_failing, first_broken};
+ghost use Rattle.gm_config.specs.CodeLimits.{seen};
+ghost use Rattle.gm_config.specs.WorkloadRules.{workload_rules, shape_in, class_in, are_different, are_choices, range_within, range_in, range_under, range_at, range_of, format_of, has_workload_members, has_numbers, has_choices, allows_two_conjuncts, allows_cycles, KeepsWorkloadRules, KeepsRules, workload_in, workload_of};
 
-use crate::json::{elements_at, has_exactly, number, number_at, text};
+use crate::limits::{
+    CLASSES_MOST, QUERIES_MOST, RANGE_COUNT, RANGES, RangeLimits, SHAPES_MOST, STAR_MOST,
+};
+use crate::members::{elements, elements_at, has_exactly, number, number_at, text};
+use crate::rule::Breach;
 use gm_text::Items;
 use sel_algebra::{Class, Shape};
 use serde_json::Value;
 use std::alloc::{AllocError, Global};
-
-/// The most queries of a workload.
-pub const QUERIES_MOST: u32 = 1000;
-/// The greatest share of starred conjuncts, in thousandths.
-pub const STAR_MOST: u32 = 1000;
-/// The most rules of a query.
-pub const RULES_MOST: u32 = 4;
-/// The most conjuncts of a rule.
-pub const CONJUNCTS_MOST: u32 = 8;
-/// The most words of a conjunct.
-pub const DISJUNCTS_MOST: u32 = 8;
-/// The most symbols of a word.
-pub const LENGTH_MOST: u32 = 16;
-/// The most shapes: all of them.
-pub const SHAPES_MOST: usize = 4;
-/// The most classes: all of them.
-pub const CLASSES_MOST: usize = 3;
 
 /// A list of shapes.
 pub type Shapes = Items<Shape>;
@@ -45,75 +37,70 @@ pub struct Range {
     pub most: u8,
 }
 
+/// Exactly two.
+const PAIR: Range = Range { least: 2, most: 2 };
+
 /// What is asked of the queries.
 #[derive(Drop)]
 pub struct Workload {
-    /// The number of queries.
+    /// The number of queries, from 0 to [`QUERIES_MOST`].
     pub queries: u32,
     /// The shapes that are drawn from.
     pub shapes: Shapes,
     /// The classes that are drawn from.
     pub classes: Classes,
-    /// How many conjuncts are to be starred, in thousandths.
+    /// How many conjuncts are to be starred, in thousandths, from 0 to [`STAR_MOST`].
     pub star: u32,
-    /// The number of rules of a query.
+    /// The number of rules of a query, from 1 to 4.
     pub rules: Range,
-    /// The number of conjuncts of a rule.
+    /// The number of conjuncts of a rule, from 1 to 8.
     pub conjuncts: Range,
-    /// The number of words of a conjunct.
+    /// The number of words of a conjunct, from 1 to 8.
     pub disjuncts: Range,
-    /// The number of symbols of a word.
+    /// The number of symbols of a word, from 1 to 32.
     pub length: Range,
+    /// The number of heads of a query, from 0 to 4.
+    pub arity: Range,
+    /// The format of the text of the queries: 2 where the configuration has a range of heads, and else 1,
+    /// in which each query has exactly two heads.
+    pub format: u8,
 }
 
-/// Whether the member `workload` is an object with the members of a workload and no others.
-pub(crate) fn meets_rule_20(value: &Value) -> bool
-    ensures { result ≡ rule_20 (view value.now) }
+/// The first of the rules 20 to 24 that the value breaks, at its first index.
+pub(crate) fn first_broken_workload_rule(value: &Value) -> Option<Breach>
+    ensures { option_map (λ b. (b.rule, b.index)) result ≡ first_broken workload_rules (view value.now) }
 {
-    match value.get("workload") {
-        Some(workload) => has_workload_members(workload),
-        None => false,
+    let Some(workload) = value.get("workload") else {
+        return Some(Breach { rule: 20, index: 0 });
+    };
+    if !has_workload_members(workload) {
+        return Some(Breach { rule: 20, index: 0 });
     }
+    if !has_numbers(workload) {
+        return Some(Breach { rule: 21, index: 0 });
+    }
+    if let Some(index) = first_broken_choice(workload) {
+        return Some(Breach { rule: 22, index });
+    }
+    if let Some(index) = first_broken_range(workload) {
+        return Some(Breach { rule: 23, index });
+    }
+    if !allows_cycles(workload) {
+        return Some(Breach { rule: 24, index: 0 });
+    }
+    None
 }
 
-/// Whether the workload's `queries` and `star` are numbers in their limits.
-pub(crate) fn meets_rule_21(value: &Value) -> bool
-    ensures { result ≡ rule_21 (view value.now) }
+fn first_broken_choice(workload: &Value) -> Option<u32>
+    ensures { result ≡ first_failing (λ i. has_choices i (view workload.now)) 2 }
 {
-    match value.get("workload") {
-        Some(workload) => has_numbers(workload),
-        None => false,
-    }
+    (0..2u32).find(|i| !has_choices(workload, *i))
 }
 
-/// Whether the workload's `shapes`, at index 0, or `classes`, at index 1, are different names.
-pub(crate) fn meets_rule_22(value: &Value, index: usize) -> bool
-    ensures { result ≡ rule_22 (view value.now) index }
+fn first_broken_range(workload: &Value) -> Option<u32>
+    ensures { result ≡ first_failing (λ i. is_some (range_at i (view workload.now))) (length range_limits) }
 {
-    match value.get("workload") {
-        Some(workload) => has_choices(workload, index),
-        None => false,
-    }
-}
-
-/// Whether the workload's range at the index, of `rules`, `conjuncts`, `disjuncts` and `length`, is one.
-pub(crate) fn meets_rule_23(value: &Value, index: usize) -> bool
-    ensures { result ≡ rule_23 (view value.now) index }
-{
-    match value.get("workload") {
-        Some(workload) => range_at(workload, index).is_some(),
-        None => false,
-    }
-}
-
-/// Whether the workload allows two conjuncts where it has the cycle among its shapes.
-pub(crate) fn meets_rule_24(value: &Value) -> bool
-    ensures { result ≡ rule_24 (view value.now) }
-{
-    match value.get("workload") {
-        Some(workload) => allows_cycles(workload),
-        None => false,
-    }
+    (0..RANGE_COUNT).find(|i| range_at(workload, *i).is_none())
 }
 
 /// The workload of the value.
@@ -131,44 +118,43 @@ fn read_member(alloc: Global, workload: &Value) -> Result<Workload, AllocError>
     requires { KeepsRules (view workload.now) }
     ensures { IfOk result (λ read. read ≡ workload_in (view workload.now)) }
 {
-    let shapes = Items::of(read_shapes(alloc, elements_at(workload, "shapes"))?);
-    let classes = Items::of(read_classes(alloc, elements_at(workload, "classes"))?);
-    let queries = number_in(workload, "queries", QUERIES_MOST);
-    let star = number_in(workload, "star", STAR_MOST);
-    let rules = range_in(workload, 0);
-    let conjuncts = range_in(workload, 1);
-    let disjuncts = range_in(workload, 2);
-    let length = range_in(workload, 3);
+    let shapes = Items::of(read_choices(alloc, elements_at(workload, "shapes"))?);
+    let classes = Items::of(read_choices(alloc, elements_at(workload, "classes"))?);
     Ok(Workload {
-        queries,
+        queries: number_of(workload, "queries", QUERIES_MOST),
         shapes,
         classes,
-        star,
-        rules,
-        conjuncts,
-        disjuncts,
-        length,
+        star: number_of(workload, "star", STAR_MOST),
+        rules: range_of(workload, 0),
+        conjuncts: range_of(workload, 1),
+        disjuncts: range_of(workload, 2),
+        length: range_of(workload, 3),
+        arity: range_of(workload, 4),
+        format: format_of(workload),
     })
 }
 
-fn number_in(workload: &Value, name: &str, most: u32) -> u32
-    requires { is_some (number_at name.now 0 most (view workload.now)) ≡ true }
+fn number_of(workload: &Value, name: &str, most: u32) -> u32
     ensures { result ≡ unwrap_or (number_at name.now 0 most (view workload.now)) 0 }
 {
-    number_at(workload, name, 0, most).unwrap()
+    number_at(workload, name, 0, most).unwrap_or(0)
 }
 
-fn range_in(workload: &Value, index: usize) -> Range
-    requires { is_some (range_at index (view workload.now)) ≡ true }
-    ensures { result ≡ unwrap_or (range_at index (view workload.now)) no_range }
+fn format_of(workload: &Value) -> u8
+    ensures { result ≡ format_of (view workload.now) }
 {
-    range_at(workload, index).unwrap()
+    if workload.get("arity").is_some() {
+        2
+    } else {
+        1
+    }
 }
 
 fn has_workload_members(workload: &Value) -> bool
     ensures { result ≡ has_workload_members (view workload.now) }
 {
     let members = [
+        "arity",
         "queries",
         "shapes",
         "classes",
@@ -178,7 +164,7 @@ fn has_workload_members(workload: &Value) -> bool
         "disjuncts",
         "length",
     ];
-    has_exactly(workload, &members)
+    has_exactly(workload, &members[1..]) || has_exactly(workload, &members)
 }
 
 fn has_numbers(workload: &Value) -> bool
@@ -188,55 +174,81 @@ fn has_numbers(workload: &Value) -> bool
         && number_at(workload, "star", 0, STAR_MOST).is_some()
 }
 
-fn has_choices(workload: &Value, index: usize) -> bool
+/// Whether the workload's `shapes`, at index 0, or `classes`, at index 1, are different names.
+fn has_choices(workload: &Value, index: u32) -> bool
     ensures { result ≡ has_choices index (view workload.now) }
 {
     match index {
-        0 => are_shapes(elements_at(workload, "shapes")),
-        _ => are_classes(elements_at(workload, "classes")),
+        0 => are_choices::<Shape>(elements_at(workload, "shapes"), SHAPES_MOST),
+        _ => are_choices::<Class>(elements_at(workload, "classes"), CLASSES_MOST),
     }
 }
 
-fn are_shapes(values: &[Value]) -> bool
-    ensures { result ≡ are_shapes (map view values.now) }
-{
-    has_count(values, SHAPES_MOST) && are_shape_names(values) && are_different(values)
+/// What a configuration chooses by its name.
+trait Choice: Copy {
+    ghost choice: { Data → Option Self };
+
+    /// The choice whose name the value is.
+    fn choice_in(value: &Value) -> Option<Self>
+        ensures { result ≡ choice (view value.now) };
 }
 
-fn are_classes(values: &[Value]) -> bool
-    ensures { result ≡ are_classes (map view values.now) }
-{
-    has_count(values, CLASSES_MOST) && are_class_names(values) && are_different(values)
+impl Choice for Shape {
+    ghost choice = { shape_in };
+
+    fn choice_in(value: &Value) -> Option<Shape> {
+        if is_text(value, b"chain") {
+            return Some(Shape::Chain);
+        }
+        if is_text(value, b"star") {
+            return Some(Shape::Star);
+        }
+        if is_text(value, b"cycle") {
+            return Some(Shape::Cycle);
+        }
+        if is_text(value, b"starchain") {
+            return Some(Shape::StarChain);
+        }
+        None
+    }
 }
 
-fn has_count(values: &[Value], most: usize) -> bool
-    ensures { result ≡ (nat_le 1 (length values.now) && nat_le (length values.now) most) }
-{
-    1 <= values.len() && values.len() <= most
+impl Choice for Class {
+    ghost choice = { class_in };
+
+    fn choice_in(value: &Value) -> Option<Class> {
+        if is_text(value, b"constant") {
+            return Some(Class::Constant);
+        }
+        if is_text(value, b"linear") {
+            return Some(Class::Linear);
+        }
+        if is_text(value, b"quadratic") {
+            return Some(Class::Quadratic);
+        }
+        None
+    }
 }
 
-fn are_shape_names(values: &[Value]) -> bool
-    ensures { result ≡ list_all (λ value. is_some (shape_in (view value))) values.now }
+fn are_choices<C: Choice>(values: &[Value], most: usize) -> bool
+    ensures { result ≡ are_choices C.choice most (map view values.now) }
 {
-    values.iter().all(|value| is_shape_name(value))
+    1 <= values.len() && values.len() <= most && are_named::<C>(values) && are_different(values)
 }
 
-fn is_shape_name(value: &Value) -> bool
-    ensures { result ≡ is_some (shape_in (view value.now)) }
+fn are_named<C: Choice>(values: &[Value]) -> bool
+    ensures { result ≡ list_all (λ value. is_some (C.choice (view value))) values.now }
 {
-    shape_in(value).is_some()
+    values.iter().all(|value| C::choice_in(value).is_some())
 }
 
-fn are_class_names(values: &[Value]) -> bool
-    ensures { result ≡ list_all (λ value. is_some (class_in (view value))) values.now }
+fn read_choices<C: Choice>(alloc: Global, values: &[Value]) -> Result<Vec<C>, AllocError>
+    ensures { IfOk result (λ choices. choices.items ≡ filter_map C.choice (map view values.now)) }
 {
-    values.iter().all(|value| is_class_name(value))
-}
-
-fn is_class_name(value: &Value) -> bool
-    ensures { result ≡ is_some (class_in (view value.now)) }
-{
-    class_in(value).is_some()
+    values
+        .iter()
+        .filter_map(|value| C::choice_in(value))
+        .collect(alloc)
 }
 
 fn are_different(values: &[Value]) -> bool
@@ -263,79 +275,50 @@ fn is_text(value: &Value, wanted: &[u8]) -> bool
     text(value) == wanted
 }
 
-fn read_shapes(alloc: Global, values: &[Value]) -> Result<Vec<Shape>, AllocError>
-    ensures { IfOk result (λ shapes. shapes.items ≡ filter_map shape_in (map view values.now)) }
+fn range_of(workload: &Value, index: u32) -> Range
+    ensures { result ≡ range_of index (view workload.now) }
 {
-    values
-        .iter()
-        .filter_map(|value| shape_in(value))
-        .collect(alloc)
+    range_at(workload, index).unwrap_or(PAIR)
 }
 
-fn shape_in(value: &Value) -> Option<Shape>
-    ensures { result ≡ shape_in (view value.now) }
-{
-    if is_text(value, b"chain") {
-        return Some(Shape::Chain);
-    }
-    if is_text(value, b"star") {
-        return Some(Shape::Star);
-    }
-    if is_text(value, b"cycle") {
-        return Some(Shape::Cycle);
-    }
-    if is_text(value, b"starchain") {
-        return Some(Shape::StarChain);
-    }
-    None
-}
-
-fn read_classes(alloc: Global, values: &[Value]) -> Result<Vec<Class>, AllocError>
-    ensures { IfOk result (λ classes. classes.items ≡ filter_map class_in (map view values.now)) }
-{
-    values
-        .iter()
-        .filter_map(|value| class_in(value))
-        .collect(alloc)
-}
-
-fn class_in(value: &Value) -> Option<Class>
-    ensures { result ≡ class_in (view value.now) }
-{
-    if is_text(value, b"constant") {
-        return Some(Class::Constant);
-    }
-    if is_text(value, b"linear") {
-        return Some(Class::Linear);
-    }
-    if is_text(value, b"quadratic") {
-        return Some(Class::Quadratic);
-    }
-    None
-}
-
-fn range_at(workload: &Value, index: usize) -> Option<Range>
+/// The range at an index, exactly two where the workload has no such member.
+fn range_at(workload: &Value, index: u32) -> Option<Range>
     ensures { result ≡ range_at index (view workload.now) }
 {
-    match index {
-        0 => range_within(elements_at(workload, "rules"), RULES_MOST),
-        1 => range_within(elements_at(workload, "conjuncts"), CONJUNCTS_MOST),
-        2 => range_within(elements_at(workload, "disjuncts"), DISJUNCTS_MOST),
-        _ => range_within(elements_at(workload, "length"), LENGTH_MOST),
+    range_among(workload, &RANGES, index)
+}
+
+fn range_among(workload: &Value, ranges: &[RangeLimits], index: u32) -> Option<Range>
+    requires { All (λ limits. limits.most ≤ 255) ranges.now }
+    ensures { result ≡ range_under (map seen ranges.now) index (view workload.now) }
+{
+    match ranges.get(index as usize) {
+        Some(limits) => range_in(workload, limits),
+        None => None,
     }
 }
 
-fn range_within(values: &[Value], most: u32) -> Option<Range>
+fn range_in(workload: &Value, limits: &RangeLimits) -> Option<Range>
+    requires { limits.now.most ≤ 255 }
+    ensures { result ≡ range_in (seen limits.now) (view workload.now) }
+{
+    match workload.get(limits.name) {
+        Some(range) => range_within(elements(range), limits.least, limits.most),
+        None => Some(PAIR),
+    }
+}
+
+fn range_within(values: &[Value], least: u32, most: u32) -> Option<Range>
     requires { most ≤ 255 }
-    ensures { result ≡ range_within most (map view values.now) }
+    ensures { result ≡ range_within least most (map view values.now) }
 {
     let [first, last] = values else {
         return None;
     };
-    let greatest = number(last, 1, most)?;
-    let least = number(first, 1, greatest)?;
+    let greatest = number(last, least, most)?;
+    let smallest = number(first, least, greatest)?;
     Some(Range {
-        least: least as u8,
+        least: smallest as u8,
         most: greatest as u8,
     })
 }
