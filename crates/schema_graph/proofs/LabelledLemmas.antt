@@ -9,10 +9,9 @@ use Rattle.std.proofs.lemmas.List.Elements.{Contains-append_right, Contains-push
 use Rattle.std.proofs.lemmas.List.Folds.{find-append}
 use Rattle.std.proofs.lemmas.List.FromFn.{length-map-range_with_len, get_or-map-range_with_len}
 use Rattle.std.proofs.lemmas.Map.Made.{Contains-tail}
-use Rattle.sel_algebra.specs.declared.TheConstants.{TYPES_MOST}
 use Rattle.sel_algebra.specs.declared.vocabulary.Op.{Op}
 use Rattle.sel_algebra.specs.declared.vocabulary.Kind.{Kind}
-use Rattle.sel_algebra.specs.Table.{Table, first_cells, table_of, zero_of, entry, EachPair, IsMatrix}
+use Rattle.sel_algebra.specs.Table.{types_most, Table, first_cells, table_of, zero_of, entry, EachPair, IsMatrix}
 use Rattle.sel_algebra.proofs.TableLemmas.{entry-table_of, entry-laid_out, row-lt, column-lt, IsMatrix-zero_of}
 use Rattle.schema_graph.specs.declared.edge.SchemaEdge.{SchemaEdge}
 use Rattle.schema_graph.specs.Edge.{taken, ends}
@@ -91,8 +90,10 @@ HasOperators-matrix_of s label back is =
     record {
       kinds = refl;
       entries = λ i j p q op.
-          let at = entry-table_of s.kinds (operator_of edges label) i j p q in
-          (λ e. Contains-operator_of edges i label j op (sym at ∙ e), λ in_edges. at ∙ operator_of-Contains edges (EdgesDiffer-taken back s.edges is.edges_differ) i label j (record { source = i; label = label; target = j; op = op }) in_edges refl);
+          let at = entry-table_of s.kinds (operator_of edges label) i j p q in (
+            λ e. Contains-operator_of edges i label j op (sym at ∙ e),
+            λ in_edges. at ∙ operator_of-Contains edges (EdgesDiffer-taken back s.edges is.edges_differ) i label j (record { source = i; label = label; target = j; op = op }) in_edges refl,
+          );
     }
 
 -- a matrix over these types with the operators of these edges
@@ -101,7 +102,7 @@ pub record HasEdges (types : List Kind) (edges : List SchemaEdge) (label : ℕ) 
   pub kinds : m.kinds ≡ types
   pub entries : EachPair m.kinds (λ i j. entry m i j ≡ operator_of edges label i j)
 
-pub HasEdges-none : (types : List Kind) (label : ℕ) → length types ≤ TYPES_MOST → HasEdges types [] label (zero_of types)
+pub HasEdges-none : (types : List Kind) (label : ℕ) → length types ≤ types_most → HasEdges types [] label (zero_of types)
 HasEdges-none types label few = record {
   matrix = IsMatrix-zero_of types few;
   kinds = refl;
@@ -145,6 +146,7 @@ same_table f m matrix entries =
     λ k. record { kinds = m.kinds; cells = cells k }
 
 -- with all edges it is the matrix of the label
-pub matrix_of-HasEdges : (s : SchemaValue) (label : ℕ) (back : Bool) (m : Table) (n : ℕ) → length s.edges ≤ n → HasEdges s.kinds (map (taken back) (take n s.edges)) label m → m ≡ matrix_of s label back
+pub matrix_of-HasEdges : (s : SchemaValue) (label : ℕ) (back : Bool) (m : Table) (n : ℕ) → length s.edges ≤ n
+    → HasEdges s.kinds (map (taken back) (take n s.edges)) label m → m ≡ matrix_of s label back
 matrix_of-HasEdges s label back m n all has =
     same_table (operator_of (all_taken s back) label) m has.matrix (rw take_all at has.entries) ∙ ap (λ kinds. table_of kinds (operator_of (all_taken s back) label)) has.kinds

@@ -50,7 +50,8 @@ growing_operator true true = Diamond
 
 -- the operator of a constraint: its normal form for the kinds of its ends
 abbrev pub constraint_operator : List Kind → Constraint → Op
-constraint_operator kinds k = normal_of (growing_operator (is_zipf k.out_spec) (is_zipf k.in_spec)) (kind_at kinds k.source) (kind_at kinds k.target)
+constraint_operator kinds k =
+    normal_of (growing_operator (is_zipf k.out_spec) (is_zipf k.in_spec)) (kind_at kinds k.source) (kind_at kinds k.target)
 
 -- the edge of a constraint, between types of these kinds
 abbrev pub edge_of : List Kind → Constraint → SchemaEdge

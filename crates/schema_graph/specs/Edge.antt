@@ -12,7 +12,7 @@ use Rattle.sel_algebra.specs.declared.vocabulary.Kind.{Kind}
 use Rattle.sel_algebra.specs.declared.vocabulary.Symbol.{Symbol}
 use Rattle.sel_algebra.specs.Operators.{mirror_of, IsNormal}
 use Rattle.sel_algebra.specs.Table.{kind_at}
-use Rattle.gm_config.specs.declared.limits.TheConstants.{LABELS_MOST}
+use Rattle.gm_config.specs.Limits.{labels_most}
 use Rattle.schema_graph.specs.declared.edge.SchemaEdge.{SchemaEdge}
 
 -- what stands past the end of a list of edges
@@ -55,6 +55,6 @@ ends e = (e.source, (e.label, e.target))
 -- an edge between types of the list, with a small label and an operator that is normal for its ends
 pub record IsSchemaEdge (kinds : List Kind) (e : SchemaEdge) : Type 0 where
   pub source : e.source < length kinds
-  pub label : e.label < LABELS_MOST
+  pub label : e.label < labels_most
   pub target : e.target < length kinds
   pub normal : IsNormal e.op (kind_at kinds e.source) (kind_at kinds e.target)

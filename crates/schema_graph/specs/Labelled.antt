@@ -29,7 +29,8 @@ matrix_of s label back = table_of s.kinds (operator_of (all_taken s back) label)
 -- a matrix over the types, in which an operator stands from i to j just where an edge of this label has it
 pub record HasOperators (s : SchemaValue) (label : ℕ) (back : Bool) (m : Table) : Type 0 where
   pub kinds : m.kinds ≡ s.kinds
-  pub entries : EachPair s.kinds (λ i j. (op : Op) → (entry m i j ≡ Some op) ↔ Contains (all_taken s back) (record { source = i; label = label; target = j; op = op }))
+  pub entries : EachPair s.kinds (λ i j. (op : Op) →
+      (entry m i j ≡ Some op) ↔ Contains (all_taken s back) (record { source = i; label = label; target = j; op = op }))
 
 -- an edge's operator becomes the entry from its source to its target, if it has this label, and all else stays
 pub record EntersEdge (old new : Table) (label : ℕ) (e : SchemaEdge) : Type 0 where

@@ -1,7 +1,7 @@
 -- The symbols of a schema, in their order: by their edges, and along an edge before against it.
 --   first_symbols n        the symbols of the first n edges
 --   symbols_of edges t     the symbols that start at type t
-use Rattle.std.specs.Prelude.{ℕ, ◌==◌, Bool, true, false, List, [], ◌∷◌, length, filter}
+use Rattle.std.specs.Prelude.{ℕ, ◌==◌, if◌then◌else◌, Bool, true, false, List, [], ◌∷◌, length, filter}
 use Rattle.std.specs.List.{range_with_len, flat_map}
 use Rattle.sel_algebra.specs.declared.vocabulary.Symbol.{Symbol}
 use Rattle.schema_graph.specs.declared.edge.SchemaEdge.{SchemaEdge}
@@ -10,6 +10,10 @@ use Rattle.schema_graph.specs.Edge.{start_of}
 -- the two symbols of an edge: along it and against it
 abbrev pub both_ways : ℕ → List Symbol
 both_ways e = record { edge = e; back = false } ∷ record { edge = e; back = true } ∷ []
+
+-- the symbol that takes an edge in a direction, if it is wanted
+abbrev pub symbol_if : Bool → ℕ → Bool → List Symbol
+symbol_if wanted edge back = if wanted then record { edge = edge; back = back } ∷ [] else []
 
 -- the symbols of the first n edges
 abbrev pub first_symbols : ℕ → List Symbol

@@ -7,10 +7,9 @@
 mod configured;
 mod edge;
 mod labelled;
+pub mod laws;
 mod schema;
 mod symbols;
-#[cfg(test)]
-mod tests;
 
 pub use edge::SchemaEdge;
 pub use gm_config::LABELS_MOST;

@@ -97,6 +97,14 @@ impl Schema {
         self.edges.len() as u8
     }
 
+    /// The kinds of its types.
+    pub fn kinds(&self) -> &[Kind]
+        ensures kinds { result.now ≡ self.now.kinds }
+        ensures schema { IsSchema self.now }
+    {
+        self.kinds.as_slice()
+    }
+
     /// The kind of a type.
     pub fn kind(&self, t: u8) -> Kind
         requires { t < length self.now.kinds }
@@ -187,7 +195,7 @@ impl Schema {
         ensures operators { IfOk result (HasOperators self.now label back) }
         ensures matrix { IfOk result IsMatrix }
     {
-        let mut matrix = Matrix::zero(alloc, &self.kinds)?;
+        let mut matrix = Matrix::zero(alloc, self.kinds())?;
         for edge in &self.edges {
             enter_edge(&mut matrix, taken(*edge, back), label);
         }

@@ -1,10 +1,10 @@
 //! The symbols that start at a type.
 
-ghost use Rattle.std.specs.Prelude.{◌≡◌, ◌++◌, ◌∷◌, [], ◌≤◌, length, map, if◌then◌else◌, IfOk, OnOk};
+ghost use Rattle.std.specs.Prelude.{◌≡◌, ◌++◌, ◌≤◌, length, map, IfOk, OnOk};
 ghost use Rattle.std.specs.List.{range_with_len};
-ghost use Rattle.schema_graph.specs.Symbols.{symbols_of};
+ghost use Rattle.schema_graph.specs.Symbols.{symbol_if, symbols_of};
+ghost use Rattle.schema_graph.specs.Schema.{edges_most};
 
-use crate::EDGES_MOST;
 use crate::edge::SchemaEdge;
 use gm_text::Items;
 use sel_algebra::Symbol;
@@ -16,7 +16,7 @@ pub(crate) fn symbol_lists(
     type_count: u8,
     edges: &[SchemaEdge],
 ) -> Result<Vec<Items<Symbol>>, AllocError>
-    requires { length edges.now ≤ EDGES_MOST }
+    requires { length edges.now ≤ edges_most }
     ensures { IfOk result (λ lists. lists.items ≡ map (symbols_of edges.now) (range_with_len 0 type_count)) }
 {
     let mut lists = Vec::new(alloc);
@@ -28,7 +28,7 @@ pub(crate) fn symbol_lists(
 
 /// The symbols that start at a type, by their edges, and along an edge before against it.
 fn symbols_of(alloc: Global, edges: &[SchemaEdge], start: u8) -> Result<Items<Symbol>, AllocError>
-    requires { length edges.now ≤ EDGES_MOST }
+    requires { length edges.now ≤ edges_most }
     ensures { IfOk result (λ symbols. symbols ≡ symbols_of edges.now start) }
 {
     let mut symbols = Vec::new(alloc);
@@ -42,7 +42,7 @@ fn symbols_of(alloc: Global, edges: &[SchemaEdge], start: u8) -> Result<Items<Sy
 
 /// Adds a symbol, if it is wanted.
 fn push_if(wanted: bool, symbols: &mut Vec<Symbol>, edge: u8, back: bool) -> Result<(), AllocError>
-    ensures { OnOk result (symbols.new.items ≡ symbols.old.items ++ (if wanted then record { edge = edge; back = back } ∷ [] else [])) }
+    ensures { OnOk result (symbols.new.items ≡ symbols.old.items ++ symbol_if wanted edge back) }
 {
     if wanted {
         symbols.push(Symbol { edge, back })?;

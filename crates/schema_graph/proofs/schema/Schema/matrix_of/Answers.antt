@@ -5,14 +5,15 @@ use Rattle.schema_graph.proofs.schema.Schema.matrix_of.Goals as goal
 
 pub loop-edge-init : goal.loop-edge-init
 loop-edge-init c =
-    rw (← c.self.view_is, c.in_ok-matrix.ensures.value, c.deref.ensures.value) (HasEdges-none _ _ c.self.invariant.schema.few_types)
+    rw (c.in_ok-matrix.ensures.value, c.kinds.ensures.kinds) (HasEdges-none _ _ c.kinds.ensures.schema.few_types)
 
 pub loop-edge-preserved : goal.loop-edge-preserved
 loop-edge-preserved c =
     let edges = c.self.inside.edges.items in
     let enters = rw (c.taken.ensures, c.deref-edge-items.ensures.value) at c.enter_edge.ensures.entries in
     let lt = rw c.deref-edge-items.ensures.value at c.loop-edge-test.true in
-    rw (← c.self.view_is) (HasEdges-more _ edges _ _ _ c.loop-edge.matrix _ _ c.self.invariant.schema.edges_differ lt (rw (← c.self.view_is) at c.loop-edge.invariant) enters c.enter_edge.ensures.matrix)
+    rw (← c.self.view_is) (HasEdges-more _ edges _ _ _ c.loop-edge.matrix _ _ c.self.invariant.schema.edges_differ lt
+    (rw (← c.self.view_is) at c.loop-edge.invariant) enters c.enter_edge.ensures.matrix)
 
 value : (c : goal.After-loop-edge) → c.loop-edge.matrix ≡ matrix_of c.args.self.now c.args.label c.args.back
 value c =
