@@ -1,8 +1,10 @@
+pub mod RunLemmas
 pub mod PlaceLemmas
 pub mod SymbolLemmas
 pub mod WalkLemmas
 pub mod MoveLemmas
-pub mod WalkTableLemmas
-pub mod WordTableLemmas
-pub mod JoinLemmas
-pub mod LiveLemmas
+pub mod RowLemmas
+pub mod StepLemmas
+pub mod GoalLemmas
+pub mod ValueLemmas
+pub mod TableLemmas

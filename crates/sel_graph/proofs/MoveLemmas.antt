@@ -1,22 +1,23 @@
 -- The tests on moves decide whether there are such moves.
-use Rattle.std.proofs.Common.{◌≡◌, ◌↔◌, ℕ, zero, suc, ◌+◌, ◌-◌, ◌*◌, ◌/◌, ◌%◌, ◌<◌, ◌≤◌, ◌==◌, Bool, true, false, not, ◌&&◌, ◌||◌, Some, length, inl, inr, refl, sym, ap, ◌∙◌, arith}
-use Rattle.std.specs.List.{Contains}
+use Rattle.std.proofs.Common.{◌≡◌, ◌↔◌, ℕ, zero, suc, ◌+◌, ◌-◌, ◌*◌, ◌/◌, ◌%◌, ◌<◌, ◌≤◌, ◌==◌, Bool, true, false, not, ◌&&◌, ◌||◌, Some, ◌∷◌, length, map, inl, inr, refl, sym, ap, ◌∙◌, arith}
+use Rattle.std.specs.List.{Contains, flat_map, range_with_len}
+use Rattle.std.proofs.lemmas.List.Elements.{Contains-append_left, Contains-append_right}
 use Rattle.std.proofs.lemmas.Bool.{false≢true, eqb-true, eq-eqb, and_parts, and_from, or_cases, or_left, or_right, cases_Bool, cases_eq}
 use Rattle.std.proofs.lemmas.List.Folds.{Any-from_list_any, list_any-from_Any}
 use Rattle.std.proofs.lemmas.List.FromFn.{length-range_with_len, get_or-range_with_len, length-map-range_with_len, get_or-map-range_with_len}
 use Rattle.sel_algebra.specs.declared.vocabulary.Op.{Op}
 use Rattle.sel_algebra.specs.declared.vocabulary.Class.{Class}
 use Rattle.gm_config.specs.declared.workload_rules.Range.{Range}
-use Rattle.transitions.proofs.RunLemmas.{Decide, run_decided}
+use Rattle.sel_graph.proofs.RunLemmas.{Decide, run_decided}
 use Rattle.sel_graph.specs.declared.states.State.{State}
 use Rattle.sel_graph.specs.declared.states.Move.{Move}
 use Rattle.sel_graph.specs.declared.states.Goal.{Goal}
 use Rattle.sel_graph.specs.States.{op_number, place_of, begun, came_to, state_class}
 use Rattle.sel_graph.specs.Walks.{HasWalk}
 use Rattle.sel_graph.specs.Moves.{ReachValue, IsReach, IsPlainMove, IsMove, moved, CarriesByMove, LeadsByMove, Joins, Meets, IsFeasible}
-use Rattle.sel_graph.specs.Numbers.{op_at, move_of, move_at, all_moves, class_number}
+use Rattle.sel_graph.specs.Numbers.{op_at, move_of, moves_to, moves_of, all_moves, class_number}
 use Rattle.sel_graph.specs.Tests.{can_reach, numbers_of, is_plain, is_move, move_on, join_on, joins, meets, feasible}
-use Rattle.sel_graph.proofs.PlaceLemmas.{op_number-below, op_at-number, star_number, move_number}
+use Rattle.sel_graph.proofs.PlaceLemmas.{op_number-below, op_at-number, place-below}
 use Rattle.sel_graph.proofs.WalkLemmas.{if_some, reach_agrees, walk_inside}
 
 -- a number of a range stands in its list
@@ -40,7 +41,7 @@ plain_agrees r t u v =
           list_any-from_Any test (numbers_of r.lengths) (i, n, inside, is, (reach_agrees r.schema n (begun t) (came_to t u v) refl).1 walk),
     )
 
-star_case : (star : Bool) (allowed : Bool) → (not star || allowed) ≡ true → star ≡ true → allowed ≡ true
+pub star_case : (star : Bool) (allowed : Bool) → (not star || allowed) ≡ true → star ≡ true → allowed ≡ true
 star_case true allowed h is = h
 star_case false allowed h is = absurd (false≢true is)
 
@@ -68,18 +69,10 @@ move_inside r is t m move =
     inside zero some walk = absurd (omega (arith, some))
     inside (suc n) some walk = walk_inside r.schema is.schema n (begun t) (came_to t m.to m.value) walk
 
-same_move : (m n : Move) → m.star ≡ n.star → m.to ≡ n.to → m.value ≡ n.value → m ≡ n
+pub same_move : (m n : Move) → m.star ≡ n.star → m.to ≡ n.to → m.value ≡ n.value → m ≡ n
 same_move m n star to value = λ i. record { star = star i; to = to i; value = value i }
 
-star_number-below : (b : Bool) → star_number b < 2
-star_number-below false = omega arith
-star_number-below true = omega arith
-
-star_number-odd : (b : Bool) (n : ℕ) → ((2 * n + star_number b) % 2 == 1) ≡ b
-star_number-odd false n = let even : (2 * n + 0) % 2 ≡ 0 = omega arith in rw even refl
-star_number-odd true n = let odd : (2 * n + 1) % 2 ≡ 1 = omega arith in rw odd refl
-
--- the move of a kind with the number of a place leads to that place
+-- the move of a kind with the place of a move is that move
 pub move_of-place : (m : Move) → move_of m.star (place_of m.to m.value) ≡ m
 move_of-place m =
     let op = op_number-below m.value in
@@ -87,18 +80,43 @@ move_of-place m =
     let value : place_of m.to m.value % 5 ≡ op_number m.value = omega (arith, op) in
     same_move (move_of m.star (place_of m.to m.value)) m refl to (ap op_at value ∙ op_at-number m.value)
 
-pub move_at-number : (m : Move) → move_at (move_number m) ≡ m
-move_at-number m =
-    let half : move_number m / 2 ≡ place_of m.to m.value = omega (arith, star_number-below m.star) in
-    rw (half, star_number-odd m.star (place_of m.to m.value)) (move_of-place m)
+-- the move of a kind with a number among those to type a
+move_of-nth : (star : Bool) (a j p : ℕ) → j < 5 → p ≡ 5 * a + j → record { star = star; to = a; value = op_at j } ≡ move_of star p
+move_of-nth star a j p below is = same_move (record { star = star; to = a; value = op_at j }) (move_of star p) refl (omega (arith, is, below)) (ap op_at (omega (arith, is, below)))
+
+-- the moves of a kind in their order are those of the places in their order
+moves-numbered : (star : Bool) (a n : ℕ) → flat_map (moves_to star) (range_with_len a n) ≡ map (move_of star) (range_with_len (5 * a) (5 * n))
+moves-numbered star a zero = refl
+moves-numbered star a (suc n) =
+    let five : 5 * suc n ≡ suc (suc (suc (suc (suc (5 * n))))) = omega arith in
+    let next : 5 * (a + 1) ≡ 5 * a + 1 + 1 + 1 + 1 + 1 = omega arith in
+    let rest = moves-numbered star (a + 1) n ∙ ap (λ p. map (move_of star) (range_with_len p (5 * n))) next in
+    rw five (λ i. move_of-nth star a 0 (5 * a) (omega arith) (omega arith) i
+    ∷ move_of-nth star a 1 (5 * a + 1) (omega arith) (omega arith) i
+    ∷ move_of-nth star a 2 (5 * a + 1 + 1) (omega arith) (omega arith) i
+    ∷ move_of-nth star a 3 (5 * a + 1 + 1 + 1) (omega arith) (omega arith) i
+    ∷ move_of-nth star a 4 (5 * a + 1 + 1 + 1 + 1) (omega arith) (omega arith) i
+    ∷ rest i)
+
+pub moves_of-numbered : (k : ℕ) (star : Bool) → moves_of k star ≡ map (move_of star) (range_with_len 0 (5 * k))
+moves_of-numbered k star = moves-numbered star 0 k
+
+-- each move to one of the types stands among those of its kind
+pub moves_of-contain : (k : ℕ) (m : Move) → m.to < k → Contains (moves_of k m.star) m
+moves_of-contain k m inside =
+    let below : place_of m.to m.value < 5 * k = place-below k m.to m.value inside in
+    rw (moves_of-numbered k m.star) (
+      place_of m.to m.value,
+      rw (length-map-range_with_len (move_of m.star) 0 (5 * k)) below,
+      get_or-map-range_with_len (move_of m.star) 0 (5 * k) (place_of m.to m.value) (place_of m.to m.value) m below (omega arith) ∙ move_of-place m,
+    )
 
 pub all_moves-contain : (k : ℕ) (m : Move) → m.to < k → Contains (all_moves k) m
-all_moves-contain k m inside =
-    let below : move_number m < 10 * k = omega (arith, inside, op_number-below m.value, star_number-below m.star) in (
-      move_number m,
-      rw (length-map-range_with_len move_at 0 (10 * k)) below,
-      get_or-map-range_with_len move_at 0 (10 * k) (move_number m) (move_number m) m below (omega arith) ∙ move_at-number m,
-    )
+all_moves-contain k m inside = of_kind m.star refl
+  where
+    of_kind : (star : Bool) → star ≡ m.star → Contains (all_moves k) m
+    of_kind false is = Contains-append_left (moves_of k false) (moves_of k true) m (rw is (moves_of-contain k m inside))
+    of_kind true is = Contains-append_right (moves_of k false) (moves_of k true) m (rw is (moves_of-contain k m inside))
 
 join_decides : (r : ReachValue) → IsReach r → (u : ℕ) → Decide (join_on r) (all_moves (length r.schema.kinds)) (λ v. v == u) (LeadsByMove r) (λ v. v ≡ u)
 join_decides r is u = record {
@@ -149,7 +167,3 @@ move_decides r is goal = record {
 
 pub feasible_agrees : (r : ReachValue) → IsReach r → (goal : Goal) (n : ℕ) (s : State) → (feasible r goal n s ≡ true) ↔ IsFeasible r goal n s
 feasible_agrees r is goal n s = run_decided (move_decides r is goal) n s
-
--- the numbers of the moves to a type
-pub move_number-between : (m : Move) → (10 * m.to ≤ move_number m) × (move_number m < 10 * m.to + 10)
-move_number-between m = (omega arith, omega (arith, op_number-below m.value, star_number-below m.star))

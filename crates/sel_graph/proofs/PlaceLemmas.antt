@@ -1,11 +1,10 @@
--- Places of operators at types, and the numbers of moves.
-use Rattle.std.proofs.Common.{◌≡◌, ℕ, ◌+◌, ◌*◌, ◌<◌, Bool, true, false, refl, arith}
+-- Places of operators at types.
+use Rattle.std.proofs.Common.{◌≡◌, ℕ, zero, suc, ◌*◌, ◌/◌, ◌%◌, ◌<◌, refl, ap, ◌∙◌, arith}
 use Rattle.sel_algebra.specs.declared.vocabulary.Op.{Op}
 use Rattle.sel_algebra.specs.declared.vocabulary.Op.TheVariants.{Equal, Less, Greater, Diamond, Cross}
 use Rattle.sel_graph.specs.declared.states.State.{State}
-use Rattle.sel_graph.specs.declared.states.Move.{Move}
-use Rattle.sel_graph.specs.States.{op_number, place_of}
-use Rattle.sel_graph.specs.Numbers.{op_at}
+use Rattle.sel_graph.specs.States.{op_number, place_of, place}
+use Rattle.sel_graph.specs.Numbers.{op_at, state_at}
 
 pub op_number-below : (a : Op) → op_number a < 5
 op_number-below a = grind arith
@@ -33,10 +32,27 @@ place-below k u a inside = omega (arith, op_number-below a)
 pub same_state : (u t : State) → u.start ≡ t.start → u.at ≡ t.at → u.op ≡ t.op → u ≡ t
 same_state u t start here op = λ i. record { start = start i; at = here i; op = op i }
 
--- the number of a move
-abbrev pub star_number : Bool → ℕ
-star_number false = 0
-star_number true = 1
+-- a place says its type
+pub place-at : (s : State) → place s / 5 ≡ s.at
+place-at s = omega (arith, op_number-below s.op)
 
-abbrev pub move_number : Move → ℕ
-move_number m = 2 * place_of m.to m.value + star_number m.star
+-- and its operator
+pub place-op_at : (s : State) → op_at (place s % 5) ≡ s.op
+place-op_at s = let op : place s % 5 ≡ op_number s.op = omega (arith, op_number-below s.op) in ap op_at op ∙ op_at-number s.op
+
+-- the operator with a number has that number
+op_at-has : (n : ℕ) → n < 5 → op_number (op_at n) ≡ n
+op_at-has zero below = refl
+op_at-has (suc zero) below = refl
+op_at-has (suc (suc zero)) below = refl
+op_at-has (suc (suc (suc zero))) below = refl
+op_at-has (suc (suc (suc (suc zero)))) below = refl
+op_at-has (suc (suc (suc (suc (suc n))))) below = absurd (omega (arith, below))
+
+-- each number is the place of its operator at its type
+pub place-parts : (p : ℕ) → place_of (p / 5) (op_at (p % 5)) ≡ p
+place-parts p = omega (arith, op_at-has (p % 5) (omega arith))
+
+-- the state that has come to a place
+pub state_at-place : (s : State) → state_at s.start (place s) ≡ s
+state_at-place s = same_state (state_at s.start (place s)) s refl (place-at s) (place-op_at s)

@@ -8,8 +8,8 @@ use Rattle.schema_graph.specs.Edge.{start_of, end_of, edge_at, IsSchemaEdge}
 use Rattle.schema_graph.specs.Schema.{SchemaValue, IsSchema}
 use Rattle.schema_graph.specs.Symbols.{first_symbols}
 use Rattle.schema_graph.proofs.EdgeLemmas.{IsSchemaEdge-taken}
-use Rattle.transitions.specs.Runs.{Runs}
-use Rattle.transitions.proofs.RunLemmas.{Decide, run_decided}
+use Rattle.sel_graph.specs.Runs.{Runs, HasRun}
+use Rattle.sel_graph.proofs.RunLemmas.{Decide, run_decided}
 use Rattle.sel_graph.specs.declared.states.State.{State}
 use Rattle.sel_graph.specs.States.{place, carried}
 use Rattle.sel_graph.specs.Walks.{CarriesBySymbol, HasWalk}
@@ -22,20 +22,20 @@ pub if_some : {A : Type 0} (b : Bool) (x u : A) → (if b then Some x else None)
 if_some true x u is = (refl, same_Some x u is)
 if_some false x u is = absurd (none-some u is)
 
--- a state has come to the type and has the operator of t
-abbrev CameAs : State → State → Type 0
-CameAs t u = (u.at ≡ t.at) × (u.op ≡ t.op)
-
-carry_decides : (g : SchemaValue) (t : State) → Decide (carry g) (first_symbols (length g.edges)) (λ u. place u == place t) (CarriesBySymbol g) (CameAs t)
-carry_decides g t = record {
+carry_decides : (g : SchemaValue) (p : ℕ) → Decide (carry g) (first_symbols (length g.edges)) (λ u. place u == p) (CarriesBySymbol g) (λ u. place u ≡ p)
+carry_decides g p = record {
   sound = λ s c u has leads.
       let (starts, same) = if_some (start_of g.edges c == s.at) (carried g s c) u leads in
       (first_symbols-edge (length g.edges) c has, eqb-true (start_of g.edges c) s.at starts, same);
   letter = λ s c u carries. first_symbols-contain (length g.edges) c carries.0;
   complete = λ s c u carries. rw (eq-eqb (start_of g.edges c) s.at carries.1) (ap Some carries.2);
-  met = λ u same. let e = eqb-true (place u) (place t) same in (place-type u.at t.at u.op t.op e, place-op u.at t.at u.op t.op e);
-  passed = λ u same. eq-eqb (place u) (place t) (rw (same.0, same.1) refl);
+  met = λ u same. eqb-true (place u) p same;
+  passed = λ u same. eq-eqb (place u) p same;
 }
+
+-- the test on places is true just where some symbols lead to the place
+pub reach_run : (g : SchemaValue) (n : ℕ) (s : State) (p : ℕ) → (can_reach g n s p ≡ true) ↔ HasRun (CarriesBySymbol g) n (λ u. place u ≡ p) s
+reach_run g n s p = run_decided (carry_decides g p) n s
 
 -- symbols keep the start
 pub walk_start : (g : SchemaValue) (word : List Symbol) (s t : State) → Runs (CarriesBySymbol g) word s t → t.start ≡ s.start
@@ -59,14 +59,17 @@ walk_inside g is n s t walk = inside walk.word walk.long walk.runs
     inside [] long runs = absurd (omega (arith, long))
     inside (c ∷ word) long (u, carries, runs) = rw (ap (λ x. x.at) (sym walk.meets)) (walk_stays g is word u walk.end runs (rw (ap (λ x. x.at) (sym carries.2)) (end_of-below g is c carries.0)))
 
+-- a state with the start and the place of t is t
+pub come_to : (u t : State) → u.start ≡ t.start → place u ≡ place t → u ≡ t
+come_to u t start same = same_state u t start (place-type u.at t.at u.op t.op same) (place-op u.at t.at u.op t.op same)
+
 -- where the starts are the same, the test on places is true just where there is a walk
 pub reach_agrees : (g : SchemaValue) (n : ℕ) (s t : State) → t.start ≡ s.start → (can_reach g n s (place t) ≡ true) ↔ HasWalk g n s t
-reach_agrees g n s t start =
-    let decided = run_decided (carry_decides g t) n s in (
-      λ test. let run = decided.0 test in
-          record { word = run.word; long = run.long; end = run.end; runs = run.runs; meets = same_state run.end t (walk_start g run.word s run.end run.runs ∙ sym start) run.meets.0 run.meets.1 },
-      λ walk. decided.1 (record { word = walk.word; long = walk.long; end = walk.end; runs = walk.runs; meets = (ap (λ x. x.at) walk.meets, ap (λ x. x.op) walk.meets) }),
-    )
+reach_agrees g n s t start = (
+  λ test. let run = (reach_run g n s (place t)).0 test in
+      record { word = run.word; long = run.long; end = run.end; runs = run.runs; meets = come_to run.end t (walk_start g run.word s run.end run.runs ∙ sym start) run.meets },
+  λ walk. (reach_run g n s (place t)).1 (record { word = walk.word; long = walk.long; end = walk.end; runs = walk.runs; meets = ap place walk.meets }),
+)
 
 pub walk_agrees : (g : SchemaValue) (n : ℕ) (s t : State) → (can_walk g n s t ≡ true) ↔ HasWalk g n s t
 walk_agrees g n s t = (

@@ -1,11 +1,17 @@
 -- The laws of reachability: each test is true exactly where what it asks for exists.
-use Rattle.std.specs.Prelude.{◌↔◌, ℕ, IsTrue}
+use Rattle.std.specs.Prelude.{◌≡◌, ◌↔◌, ℕ, IsTrue, List}
 use Rattle.sel_algebra.specs.declared.vocabulary.Op.{Op}
 use Rattle.schema_graph.specs.Schema.{SchemaValue}
 use Rattle.sel_graph.specs.declared.states.State.{State}
 use Rattle.sel_graph.specs.declared.states.Move.{Move}
 use Rattle.sel_graph.specs.declared.states.Goal.{Goal}
-use Rattle.sel_graph.specs.Walks.{HasWalk}
+use Rattle.sel_algebra.specs.declared.vocabulary.Symbol.{Symbol}
+use Rattle.sel_algebra.specs.Operators.{IsNormal}
+use Rattle.sel_algebra.specs.Table.{kind_at}
+use Rattle.sel_graph.specs.Runs.{Runs}
+use Rattle.sel_graph.specs.States.{begun, came_to}
+use Rattle.sel_graph.specs.Values.{value_from}
+use Rattle.sel_graph.specs.Walks.{CarriesBySymbol, HasWalk}
 use Rattle.sel_graph.specs.Moves.{ReachValue, IsReach, IsPlainMove, IsMove, Joins, Meets, IsFeasible}
 use Rattle.sel_graph.specs.Tests.{can_walk, is_plain, is_move, joins, meets, feasible}
 
@@ -32,3 +38,15 @@ GoalsAgree = (r : ReachValue) → IsReach r → (goal : Goal) (s : State) → Is
 -- some n moves carry a state to one that meets a goal just where the test is true
 abbrev pub FeasibilityAgrees : Type 0
 FeasibilityAgrees = (r : ReachValue) → IsReach r → (goal : Goal) (n : ℕ) (s : State) → IsTrue (feasible r goal n s) ↔ IsFeasible r goal n s
+
+-- the operator of the state to which a word carries a state is the value of the word from there
+abbrev pub WalksHaveValues : Type 0
+WalksHaveValues = (g : SchemaValue) (word : List Symbol) (s t : State) → Runs (CarriesBySymbol g) word s t → t.op ≡ value_from g (kind_at g.kinds s.start) s.op word
+
+-- the value of a word is normal for the types at its ends
+abbrev pub ValuesAreNormal : Type 0
+ValuesAreNormal = (g : SchemaValue) (word : List Symbol) (t u : ℕ) (v : Op) → Runs (CarriesBySymbol g) word (begun t) (came_to t u v) → IsNormal v (kind_at g.kinds t) (kind_at g.kinds u)
+
+-- a state that meets a goal with no further move meets it
+abbrev pub FinishedStatesMeet : Type 0
+FinishedStatesMeet = (r : ReachValue) → IsReach r → (goal : Goal) (s : State) → IsTrue (feasible r goal 0 s) → Meets r goal s

@@ -1,9 +1,11 @@
+pub mod Runs
 pub mod States
 pub mod Walks
 pub mod Moves
-pub mod Tests
 pub mod Numbers
-pub mod Tables
-pub mod WalkSteps
-pub mod MoveSteps
+pub mod Tests
+pub mod Values
 pub mod Laws
+pub mod Rows
+pub mod Steps
+pub mod Tables

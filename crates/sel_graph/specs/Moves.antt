@@ -15,7 +15,7 @@ use Rattle.sel_algebra.specs.declared.vocabulary.Op.{Op}
 use Rattle.sel_algebra.specs.Operators.{star_of}
 use Rattle.gm_config.specs.declared.workload_rules.Range.{Range}
 use Rattle.schema_graph.specs.Schema.{SchemaValue, IsSchema}
-use Rattle.transitions.specs.Runs.{HasRun}
+use Rattle.sel_graph.specs.Runs.{HasRun}
 use Rattle.sel_graph.specs.declared.states.State.{State}
 use Rattle.sel_graph.specs.declared.states.Move.{Move}
 use Rattle.sel_graph.specs.declared.states.Goal.{Goal}
@@ -24,7 +24,7 @@ use Rattle.sel_graph.specs.Walks.{HasWalk}
 
 -- the most symbols of a word
 abbrev pub symbols_most : ℕ
-symbols_most = 16
+symbols_most = 32
 
 -- the most moves of a path
 abbrev pub moves_most : ℕ

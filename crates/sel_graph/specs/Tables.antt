@@ -1,47 +1,56 @@
--- What the tables of a schema hold. k is the number of types.
---   HasWalks g l      for each length, row and place, whether there is such a walk
---   HasWords r l      for each type and place, whether some word of permitted length leads there
---   HasJoins r l      for each number of moves and two types, whether so many moves lead from one to the other
---   HasLives r l      for each number of moves, state and goal, whether so many moves can meet the goal
---   HasTables r w j l   these three tables
-use Rattle.std.specs.Prelude.{◌≡◌, ℕ, ◌+◌, ◌*◌, ◌<◌, ◌≤◌, length}
+-- What the rows of a schema hold.
+--   levels_of b kind           the levels of rows from starts of a kind
+--   HasStateRows g most Holds b   for each number of steps up to most and each state the places that it has
+--   HasWalks g b               the places to which so many symbols lead
+--   HasAfters r b              the places to which so many moves lead
+--   HasWords r rows            for each type the plain moves from there
+--   HasGoals r rows            for each start and goal the places at which the goal is met
+--   HasTables r w a rows       all but those of words
+use Rattle.std.specs.Prelude.{◌≡◌, ℕ, ◌+◌, ◌*◌, ◌<◌, ◌≤◌, Bool, IsTrue, List, length}
+use Rattle.sel_algebra.specs.declared.vocabulary.Kind.{Kind}
+use Rattle.sel_algebra.specs.declared.vocabulary.Kind.TheVariants.{Fixed, Growing}
 use Rattle.sel_algebra.specs.Table.{kind_at}
 use Rattle.schema_graph.specs.Schema.{SchemaValue}
-use Rattle.transitions.specs.Tables.{LevelsValue, level_mark, HasLevels}
+use Rattle.bit_rows.specs.Sets.{NumberSet, has}
 use Rattle.sel_graph.specs.declared.states.State.{State}
-use Rattle.sel_graph.specs.declared.states.Goal.{Goal}
+use Rattle.sel_graph.specs.declared.levels.KindLevels.{KindLevels}
 use Rattle.sel_graph.specs.States.{place}
-use Rattle.sel_graph.specs.Moves.{ReachValue, IsReach, symbols_most, moves_most, second_most}
-use Rattle.sel_graph.specs.Numbers.{goal_count, row_number, state_number, goal_number}
-use Rattle.sel_graph.specs.Tests.{can_reach, leads_at, joins, feasible}
+use Rattle.sel_graph.specs.Rows.{HasRows, level_at, row_at}
+use Rattle.sel_graph.specs.Steps.{GoalMet}
+use Rattle.sel_graph.specs.Moves.{ReachValue, IsReach, symbols_most, moves_most}
+use Rattle.sel_graph.specs.Numbers.{goal_count}
+use Rattle.sel_graph.specs.Tests.{can_reach, can_come, leads_at}
 
--- for each length, row and place, whether there is such a walk; a row is of all starts of a kind
-pub record HasWalks (g : SchemaValue) (l : LevelsValue) : Type 0 where
-  pub count_is : l.count ≡ symbols_most + 1
-  pub rows_are : l.states ≡ 10 * length g.kinds
-  pub places_are : l.goals ≡ 5 * length g.kinds
-  pub marked : (n : ℕ) (s : State) (p : ℕ) → n ≤ symbols_most → s.at < length g.kinds → p < 5 * length g.kinds
-      → level_mark l n (row_number (length g.kinds) (kind_at g.kinds s.start) (place s)) p ≡ can_reach g n s p
+-- the levels of rows from starts of a kind
+abbrev pub levels_of : KindLevels → Kind → List (List NumberSet)
+levels_of b Fixed = b.fixed.items
+levels_of b Growing = b.growing.items
 
--- for each type and place, whether some word of permitted length leads there
-abbrev pub HasWords : ReachValue → LevelsValue → Type 0
-HasWords r l = HasLevels 1 (length r.schema.kinds) (5 * length r.schema.kinds) (λ n t p. leads_at r t p) l
+-- for each number of steps up to most and each state the places that it has, by the kind of its start and its place
+pub record HasStateRows (g : SchemaValue) (most : ℕ) (holds : ℕ → State → ℕ → Bool) (b : KindLevels) : Type 0 where
+  pub count : (kind : Kind) → length (levels_of b kind) ≡ most + 1
+  pub long : (kind : Kind) (n : ℕ) → n ≤ most → length (level_at (levels_of b kind) n) ≡ 5 * length g.kinds
+  pub marked : (n : ℕ) (s : State) (p : ℕ) → n ≤ most → s.at < length g.kinds → has (row_at (levels_of b (kind_at g.kinds s.start)) n (place s)) p ≡ holds n s p
 
--- for each number of moves and two types, whether so many moves lead from one to the other
-abbrev pub HasJoins : ReachValue → LevelsValue → Type 0
-HasJoins r l = HasLevels (moves_most + 1) (length r.schema.kinds) (length r.schema.kinds) (joins r) l
+-- the places to which so many symbols lead
+abbrev pub HasWalks : SchemaValue → KindLevels → Type 0
+HasWalks g b = HasStateRows g symbols_most (can_reach g) b
 
--- for each number of moves, state and goal, whether so many moves can meet the goal
-pub record HasLives (r : ReachValue) (l : LevelsValue) : Type 0 where
-  pub count_is : l.count ≡ moves_most + 1
-  pub states_are : l.states ≡ length r.schema.kinds * (5 * length r.schema.kinds)
-  pub goals_are : l.goals ≡ goal_count
-  pub marked : (n : ℕ) (s : State) (goal : Goal) → n ≤ moves_most → s.start < length r.schema.kinds → s.at < length r.schema.kinds → goal.second ≤ second_most
-      → level_mark l n (state_number (length r.schema.kinds) s) (goal_number goal) ≡ feasible r goal n s
+-- the places to which so many moves lead
+abbrev pub HasAfters : ReachValue → KindLevels → Type 0
+HasAfters r b = HasStateRows r.schema moves_most (can_come r) b
 
--- all tables of a schema but that of words
-pub record HasTables (r : ReachValue) (w j l : LevelsValue) : Type 0 where
+-- for each type the places of the plain moves from there
+abbrev pub HasWords : ReachValue → List NumberSet → Type 0
+HasWords r rows = HasRows (length r.schema.kinds) (λ t p. IsTrue (leads_at r t p)) rows
+
+-- for each start and goal the places at which the goal is met
+abbrev pub HasGoals : ReachValue → List NumberSet → Type 0
+HasGoals r rows = HasRows (goal_count * length r.schema.kinds) (GoalMet r) rows
+
+-- all rows but those of words
+pub record HasTables (r : ReachValue) (w a : KindLevels) (rows : List NumberSet) : Type 0 where
   pub reach : IsReach r
   pub walks : HasWalks r.schema w
-  pub joins : HasJoins r j
-  pub lives : HasLives r l
+  pub afters : HasAfters r a
+  pub goals : HasGoals r rows

@@ -4,6 +4,7 @@
 --   leads_at r t p          whether some word of permitted length leads from t to place p
 --   is_plain r t u v        whether some word of permitted length leads from t to u with value v
 --   is_move r t m           whether m is a move from type t
+--   can_come r n s p        whether some n moves carry s to the state with its start at place p
 --   joins r n t u           whether some n moves lead from t to u
 --   meets r goal s          whether s meets a goal
 --   feasible r goal n s     whether some n moves carry s to a state that meets the goal
@@ -15,7 +16,7 @@ use Rattle.gm_config.specs.declared.workload_rules.Range.{Range}
 use Rattle.schema_graph.specs.Edge.{start_of}
 use Rattle.schema_graph.specs.Symbols.{first_symbols}
 use Rattle.schema_graph.specs.Schema.{SchemaValue}
-use Rattle.transitions.specs.Runs.{can_run}
+use Rattle.sel_graph.specs.Runs.{can_run}
 use Rattle.sel_graph.specs.declared.states.State.{State}
 use Rattle.sel_graph.specs.declared.states.Move.{Move}
 use Rattle.sel_graph.specs.declared.states.Goal.{Goal}
@@ -54,6 +55,10 @@ is_move r t m = is_plain r t m.to m.value && (not m.star || (r.stars && (m.to ==
 -- the state to which a move carries a state, if it is one from there
 abbrev pub move_on : ReachValue → State → Move → Option State
 move_on r s m = if is_move r s.at m then Some (moved r.schema s m) else None
+
+-- whether some n moves carry s to the state with its start at place p
+abbrev pub can_come : ReachValue → ℕ → State → ℕ → Bool
+can_come r n s p = can_run (move_on r) (all_moves (length r.schema.kinds)) (λ u. place u == p) n s
 
 -- the type to which a move leads from t, if it is one from there
 abbrev pub join_on : ReachValue → ℕ → Move → Option ℕ

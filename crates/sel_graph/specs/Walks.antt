@@ -5,7 +5,7 @@ use Rattle.std.specs.Prelude.{◌≡◌, ℕ, ◌<◌, length}
 use Rattle.sel_algebra.specs.declared.vocabulary.Symbol.{Symbol}
 use Rattle.schema_graph.specs.Edge.{start_of}
 use Rattle.schema_graph.specs.Schema.{SchemaValue}
-use Rattle.transitions.specs.Runs.{HasRun}
+use Rattle.sel_graph.specs.Runs.{HasRun}
 use Rattle.sel_graph.specs.declared.states.State.{State}
 use Rattle.sel_graph.specs.States.{carried}
 

@@ -1,7 +1,7 @@
 //! The laws of reachability. Each is the contract of a function that does nothing.
 ghost use Rattle.std.specs.Prelude.{◌≡◌};
 ghost use Rattle.sel_graph.specs.Moves.{symbols_most, moves_most, second_most};
-ghost use Rattle.sel_graph.specs.Laws.{WalksAgree, PlainMovesAgree, MovesAgree, JoinsAgree, GoalsAgree, FeasibilityAgrees};
+ghost use Rattle.sel_graph.specs.Laws.{WalksAgree, PlainMovesAgree, MovesAgree, JoinsAgree, GoalsAgree, FeasibilityAgrees, WalksHaveValues, ValuesAreNormal, FinishedStatesMeet};
 
 use crate::{MOVES_MOST, SECOND_MOST, SYMBOLS_MOST};
 
@@ -39,6 +39,24 @@ pub fn goals_agree()
 #[tactic(auto, using(crate::proofs::MoveLemmas::feasible_agrees))]
 pub fn feasibility_agrees()
     ensures { FeasibilityAgrees }
+{}
+
+/// The operator to which a word carries a state is the value of the word from there.
+#[tactic(auto, using(crate::proofs::ValueLemmas::walks_have_values))]
+pub fn walks_have_values()
+    ensures { WalksHaveValues }
+{}
+
+/// The value of a word is normal for the types at its ends.
+#[tactic(auto, using(crate::proofs::ValueLemmas::values_are_normal))]
+pub fn values_are_normal()
+    ensures { ValuesAreNormal }
+{}
+
+/// A state that meets a goal with no further move meets it.
+#[tactic(auto, using(crate::proofs::ValueLemmas::finished_states_meet))]
+pub fn finished_states_meet()
+    ensures { FinishedStatesMeet }
 {}
 
 /// The limits are those of the definitions.

@@ -1,23 +1,26 @@
 //! Reachability in the selectivity graph of a schema.
+//!
+//! What can be reached is kept as rows of bits. A row is a set of places: the place of an operator at a type is five
+//! times the type's number, and the operator's number in their order.
 #![tactic(auto)]
 
-mod join_table;
+mod goal_rows;
 pub mod laws;
-mod live_table;
+mod levels;
+mod move_rows;
 mod moves;
-mod numbers;
+mod places;
 mod reach;
+mod rows;
 mod states;
-#[cfg(test)]
-mod tests;
-mod walk_table;
-mod word_table;
+mod walk_rows;
+mod word_rows;
 
 pub use reach::Reach;
 pub use states::{Goal, Move, State};
 
 /// The most symbols of a word.
-pub const SYMBOLS_MOST: u8 = 16;
+pub const SYMBOLS_MOST: u8 = 32;
 
 /// The most moves of a path.
 pub const MOVES_MOST: u8 = 8;

@@ -1,35 +1,38 @@
 //! What can be reached in the selectivity graph of a schema.
 
-ghost use Rattle.std.specs.Prelude.{◌≡◌, ◌↔◌, ◌<◌, ◌≤◌, ◌+◌, ◌*◌, length, IsTrue, IfOk};
-ghost use Rattle.transitions.specs.Tables.{level_mark, HasLevels};
-ghost use Rattle.sel_graph.specs.States.{carried};
+ghost use Rattle.std.specs.Prelude.{◌≡◌, ◌↔◌, ℕ, ◌<◌, ◌≤◌, ◌+◌, ◌*◌, length, IsTrue, IfOk};
+ghost use Rattle.bit_rows.specs.Sets.{has};
+ghost use Rattle.sel_algebra.specs.declared.vocabulary.Op.{Op};
+ghost use Rattle.sel_graph.specs.States.{came_to, place_of, carried};
 ghost use Rattle.sel_graph.specs.Walks.{HasWalk};
 ghost use Rattle.sel_graph.specs.Moves.{symbols_most, moves_most, second_most, IsReach, IsPlainMove, IsMove, CarriesByMove, Joins, IsFeasible, moved};
-ghost use Rattle.sel_graph.specs.Tests.{can_reach, can_walk, is_plain, is_move, joins, feasible};
-ghost use Rattle.sel_graph.specs.Tables.{HasWalks, HasJoins, HasLives, HasTables};
+ghost use Rattle.sel_graph.specs.Tests.{leads_at, can_reach, can_walk, is_plain, is_move, joins, feasible};
 
-use crate::join_table::{join_table, joins};
-use crate::live_table::{feasible, live_table};
+use crate::goal_rows::{feasible, goal_rows};
+use crate::levels::KindLevels;
+use crate::move_rows::{can_step, joins, move_rows};
 use crate::moves::Moves;
-use crate::numbers::{move_at, place_of};
 use crate::states::{Goal, Move, State};
-use crate::walk_table::{can_reach, walk_table};
-use crate::word_table::word_table;
+use crate::walk_rows::{can_walk, states_after, walk_rows};
+use crate::word_rows::word_rows;
+use bit_rows::{BitRow, Grid};
 use gm_config::Range;
 use schema_graph::Schema;
 use sel_algebra::{Op, Symbol, TYPES_MOST};
 use std::alloc::{AllocError, Global};
 use std::marker::Model;
-use transitions::Levels;
 
 /// What can be reached between the types of a schema: by symbols, by moves of permitted lengths, and by moves that end where
 /// a goal is met. Each answer is looked up.
 #[derive(Drop)]
 pub struct Reach {
     moves: Moves,
-    walks: Levels,
-    joined: Levels,
-    lives: Levels,
+    /// The places to which so many symbols lead.
+    walks: KindLevels,
+    /// The places to which so many moves lead.
+    afters: KindLevels,
+    /// For each start and goal the places at which the goal is met.
+    goals: Grid<10>,
 }
 
 impl Model for Reach {
@@ -40,7 +43,7 @@ impl Model for Reach {
 
     ghost view = { λ r. r.moves };
 
-    ghost invariant = { λ r. HasTables r.moves r.walks r.joined r.lives };
+    ghost invariant = { λ r. HasTables r.moves r.walks r.afters r.goals };
 }
 
 impl Reach {
@@ -57,16 +60,16 @@ impl Reach {
         requires few { lengths.most ≤ symbols_most }
         ensures { IfOk result (λ reach. reach ≡ record { schema = schema.now; lengths = lengths; stars = stars }) }
     {
-        let walks = walk_table(alloc, schema)?;
-        let words = word_table(alloc, schema, &walks, lengths)?;
+        let walks = walk_rows(alloc, schema)?;
+        let words = word_rows(alloc, schema, &walks, lengths)?;
         let moves = Moves::of(schema.copy(alloc)?, lengths, stars, words);
-        let joined = join_table(alloc, &moves)?;
-        let lives = live_table(alloc, &moves, &joined)?;
+        let afters = move_rows(alloc, &moves)?;
+        let goals = goal_rows(alloc, &moves, &afters)?;
         Ok(Reach {
             moves,
             walks,
-            joined,
-            lives,
+            afters,
+            goals,
         })
     }
 
@@ -99,6 +102,28 @@ impl Reach {
         can_walk(&self.walks, self.moves.schema(), len, from, to)
     }
 
+    /// The places to which exactly `len` symbols, at most [`SYMBOLS_MOST`](crate::SYMBOLS_MOST), carry a state.
+    ///
+    /// The place of a state is five times the number of the type to which it has come, and the number of its operator in
+    /// the order of [`Op`]. The state has the start of `from`.
+    pub fn states_after(&self, from: State, len: u8) -> &BitRow<10>
+        requires start { from.start < length self.now.schema.kinds }
+        requires here { from.at < length self.now.schema.kinds }
+        requires len { len ≤ symbols_most }
+        ensures test { (p : ℕ) → has result.now p ≡ can_reach self.now.schema len from p }
+        ensures exact { (at : ℕ) (op : Op) → IsTrue (has result.now (place_of at op)) ↔ HasWalk self.now.schema len from (came_to from.start at op) }
+    {
+        states_after(&self.walks, self.moves.schema(), from, len)
+    }
+
+    /// The places of the plain moves from a type: the type to which a move leads, with its value.
+    pub fn plain_moves(&self, from: u8) -> &BitRow<10>
+        requires { from < length self.now.schema.kinds }
+        ensures { (p : ℕ) → has result.now p ≡ leads_at self.now from p }
+    {
+        self.moves.plain_row(from)
+    }
+
     /// Whether some word of permitted length leads from a type to a type with a value: a plain move.
     #[tactic(auto, using(crate::proofs::MoveLemmas::plain_agrees))]
     pub fn word(&self, from: u8, to: u8, value: Op) -> bool
@@ -126,7 +151,9 @@ impl Reach {
     pub fn moved(&self, state: State, m: Move) -> State
         requires start { state.start < length self.now.schema.kinds }
         requires to { m.to < length self.now.schema.kinds }
-        ensures { result ≡ moved self.now.schema state m }
+        ensures state { result ≡ moved self.now.schema state m }
+        ensures start { result.start < length self.now.schema.kinds }
+        ensures here { result.at < length self.now.schema.kinds }
     {
         self.moves.moved(state, m)
     }
@@ -144,18 +171,14 @@ impl Reach {
     }
 
     /// Whether one move carries a state to a state.
+    #[tactic(auto, using(crate::proofs::GoalLemmas::step_agrees))]
     pub fn step(&self, from: State, to: State) -> bool
         requires from_start { from.start < length self.now.schema.kinds }
         requires from_at { from.at < length self.now.schema.kinds }
         requires to_at { to.at < length self.now.schema.kinds }
         ensures { IsTrue result ↔ ((m : Move) × CarriesByMove self.now from m to) }
     {
-        for i in 10 * to.at as usize..10 * to.at as usize + 10 {
-            if self.carries(from, move_at(i), to) {
-                return true;
-            }
-        }
-        false
+        can_step(&self.afters, &self.moves, from, to)
     }
 
     /// Whether exactly so many moves, at most [`MOVES_MOST`](crate::MOVES_MOST), lead from a type to a type.
@@ -167,7 +190,7 @@ impl Reach {
         ensures test { result ≡ joins self.now moves from to }
         ensures exact { IsTrue result ↔ Joins self.now moves from to }
     {
-        joins(&self.joined, &self.moves, moves, from, to)
+        joins(&self.afters, &self.moves, moves, from, to)
     }
 
     /// Whether exactly so many moves, at most [`MOVES_MOST`](crate::MOVES_MOST), carry a state to one that meets a goal.
@@ -182,28 +205,6 @@ impl Reach {
         ensures test { result ≡ feasible self.now goal moves from }
         ensures exact { IsTrue result ↔ IsFeasible self.now goal moves from }
     {
-        feasible(&self.lives, &self.moves, moves, from, goal)
+        feasible(&self.goals, &self.afters, &self.moves, moves, from, goal)
     }
-
-    /// Whether a move carries a state to a state.
-    fn carries(&self, from: State, m: Move, to: State) -> bool
-        requires from_start { from.start < length self.now.schema.kinds }
-        requires from_at { from.at < length self.now.schema.kinds }
-        requires to { m.to < length self.now.schema.kinds }
-        ensures { IsTrue result ↔ CarriesByMove self.now from m to }
-    {
-        self.is_move(from.at, m) && self.moved(from, m) == to
-    }
-}
-
-/// Whether some so many symbols carry a state to a state.
-fn can_walk(walks: &Levels, schema: &Schema, len: u8, from: State, to: State) -> bool
-    requires walks { HasWalks schema.now walks.now }
-    requires len { len ≤ symbols_most }
-    requires start { from.start < length schema.now.kinds }
-    requires here { from.at < length schema.now.kinds }
-    requires to { to.at < length schema.now.kinds }
-    ensures { result ≡ can_walk schema.now len from to }
-{
-    to.start == from.start && can_reach(walks, schema, len, from, place_of(to.at, to.op))
 }

@@ -4,7 +4,7 @@ ghost use Rattle.std.specs.Prelude.{◌≡◌, ◌<◌, length};
 ghost use Rattle.sel_graph.specs.States.{begun, carried_to};
 ghost use Rattle.sel_graph.specs.Numbers.{move_of};
 
-use crate::numbers::op_at;
+use crate::places::op_at;
 use schema_graph::Schema;
 use sel_algebra::{Class, Op, compose, normal};
 
@@ -61,15 +61,17 @@ pub struct Move {
 }
 
 impl Move {
-    /// The move of one kind, plain or starred, with a number below 1,280: by type and value.
-    pub fn of_kind(star: bool, number: usize) -> Move
-        requires { number < 1280 }
-        ensures { result ≡ move_of star number }
+    /// The move of one kind, plain or starred, to the type and with the value of a place below 1,280.
+    ///
+    /// The place of a value at a type is five times the type's number, and the value's number in the order of [`Op`].
+    pub fn of_place(star: bool, place: u32) -> Move
+        requires { place < 1280 }
+        ensures { result ≡ move_of star place }
     {
         Move {
             star,
-            to: (number / 5) as u8,
-            value: op_at(number % 5),
+            to: (place / 5) as u8,
+            value: op_at(place % 5),
         }
     }
 }

@@ -1,0 +1,55 @@
+-- The levels of rows of steps are the rows of states.
+use Rattle.std.proofs.Common.{◌≡◌, ◌↔◌, ℕ, ◌+◌, ◌*◌, ◌<◌, Bool, true, length, refl, arith}
+use Rattle.sel_algebra.specs.declared.vocabulary.Kind.{Kind}
+use Rattle.sel_algebra.specs.declared.vocabulary.Kind.TheVariants.{Fixed, Growing}
+use Rattle.sel_algebra.specs.Table.{kind_at}
+use Rattle.schema_graph.specs.Schema.{SchemaValue, IsSchema}
+use Rattle.sel_graph.specs.declared.states.State.{State}
+use Rattle.sel_graph.specs.declared.levels.KindLevels.{KindLevels}
+use Rattle.sel_graph.specs.States.{place}
+use Rattle.sel_graph.specs.Moves.{ReachValue, IsReach, symbols_most, moves_most}
+use Rattle.sel_graph.specs.Rows.{Leads, HasLevels}
+use Rattle.sel_graph.specs.Steps.{SymbolStep, MoveStep}
+use Rattle.sel_graph.specs.Tables.{levels_of, HasStateRows, HasWalks, HasAfters}
+use Rattle.sel_graph.specs.Tests.{can_reach, can_come}
+use Rattle.sel_graph.proofs.PlaceLemmas.{place-below}
+use Rattle.sel_graph.proofs.WalkLemmas.{reach_run}
+use Rattle.sel_graph.proofs.GoalLemmas.{come_run}
+use Rattle.sel_graph.proofs.RowLemmas.{same_truth}
+use Rattle.sel_graph.proofs.StepLemmas.{run_leads, symbols_simulate, moves_simulate}
+
+-- levels of steps that lead where so many letters do
+rows_from_levels : (g : SchemaValue) (most : ℕ) (Steps : Kind → ℕ → ℕ → Type 0) (holds : ℕ → State → ℕ → Bool) (b : KindLevels)
+    → ((kind : Kind) → HasLevels (most + 1) (5 * length g.kinds) (Steps kind) (levels_of b kind))
+    → ((n : ℕ) (s : State) (p : ℕ) → s.at < length g.kinds → Leads (Steps (kind_at g.kinds s.start)) n (place s) p ↔ (holds n s p ≡ true)) → HasStateRows g most holds b
+rows_from_levels g most Steps holds b levels agree = record {
+  count = λ kind. (levels kind).long;
+  long = λ kind n few. ((levels kind).each n (omega (arith, few))).long;
+  marked = λ n s p few here.
+      let row = ((levels (kind_at g.kinds s.start)).each n (omega (arith, few))).marked (place s) p (place-below (length g.kinds) s.at s.op here) in
+      let same = agree n s p here in
+      same_truth _ (holds n s p) (λ h. same.0 (row.0 h), λ h. row.1 (same.1 h));
+}
+
+-- one fact of each kind
+by_kind : (P : Kind → Type 0) → P Fixed → P Growing → (kind : Kind) → P kind
+by_kind P fixed growing Fixed = fixed
+by_kind P fixed growing Growing = growing
+
+pub walks_from_levels : (g : SchemaValue) → IsSchema g → (b : KindLevels) → HasLevels (symbols_most + 1) (5 * length g.kinds) (SymbolStep g Fixed) b.fixed.items
+    → HasLevels (symbols_most + 1) (5 * length g.kinds) (SymbolStep g Growing) b.growing.items → HasWalks g b
+walks_from_levels g is b fixed growing =
+    rows_from_levels g symbols_most (SymbolStep g) (can_reach g) b (by_kind (λ kind. HasLevels (symbols_most + 1) (5 * length g.kinds) (SymbolStep g kind) (levels_of b kind)) fixed growing)
+    (λ n s p here.
+    let leads = run_leads (symbols_simulate g is (kind_at g.kinds s.start)) n s p (here, refl) in
+    let test = reach_run g n s p in
+    (λ h. test.1 (leads.0 h), λ h. leads.1 (test.0 h)))
+
+pub afters_from_levels : (r : ReachValue) → IsReach r → (b : KindLevels) → HasLevels (moves_most + 1) (5 * length r.schema.kinds) (MoveStep r Fixed) b.fixed.items
+    → HasLevels (moves_most + 1) (5 * length r.schema.kinds) (MoveStep r Growing) b.growing.items → HasAfters r b
+afters_from_levels r is b fixed growing =
+    rows_from_levels r.schema moves_most (MoveStep r) (can_come r) b (by_kind (λ kind. HasLevels (moves_most + 1) (5 * length r.schema.kinds) (MoveStep r kind) (levels_of b kind)) fixed growing)
+    (λ n s p here.
+    let leads = run_leads (moves_simulate r is (kind_at r.schema.kinds s.start)) n s p (here, refl) in
+    let test = come_run r is n s p in
+    (λ h. test.1 (leads.0 h), λ h. leads.1 (test.0 h)))
