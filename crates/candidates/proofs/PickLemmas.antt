@@ -52,7 +52,7 @@ pub picked_none_for_all : {X : Type 0} (w v : ℕ) (xs : List X) → w < 2 ^ 64 
 picked_none_for_all w v xs word none = ap (picked v) (picked-none w xs word none)
 
 -- what holds of each item holds of the one at a place
-at_slice_get : {X : Type 0} (P : X → Type 0) (xs : List X) (i : ℕ) (x : X) → All P xs → slice_get xs i ≡ Some x → P x
+pub at_slice_get : {X : Type 0} (P : X → Type 0) (xs : List X) (i : ℕ) (x : X) → All P xs → slice_get xs i ≡ Some x → P x
 at_slice_get P xs i x all is =
     let here = All-get_or P xs i x (slice_get_within xs i x is) all in
     rw (get_or_from_slice_get xs i x x is) at here

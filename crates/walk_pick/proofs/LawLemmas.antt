@@ -1,38 +1,53 @@
 -- The laws of picks.
-use Rattle.std.proofs.Common.{◌≡◌, ◌⊎◌, ℕ, zero, suc, ◌*◌, ◌^◌, ◌<◌, ◌≤◌, ◌==◌, Bool, true, false, not, ◌&&◌, ◌||◌, Option, Some, List, [], ◌∷◌, length, filter, inl, inr, refl, sym, ap, ◌∙◌, arith}
-use Rattle.std.specs.List.{Contains, list_any}
+use Rattle.std.proofs.Common.{◌≡◌, ◌⊎◌, ℕ, zero, suc, ◌+◌, ◌-◌, ◌^◌, ◌<◌, ◌≤◌, ◌==◌, Bool, true, false, not, ◌&&◌, ◌||◌, Option, Some, List, [], ◌∷◌, length, filter, inl, inr, refl, sym, ap, ◌∙◌, arith}
+use Rattle.std.specs.List.{Contains, list_any, All}
+use Rattle.std.proofs.lemmas.List.Elements.{All-filter, All-from_get_or, filter_passes}
 use Rattle.std.specs.Option.{IfSome}
-use Rattle.std.proofs.lemmas.Bool.{false≢true, eq-eqb, and_parts, and_from, cases_Bool}
+use Rattle.std.proofs.lemmas.Bool.{false≢true, eqb-true, eq-eqb, and_parts, and_from, cases_Bool}
 use Rattle.std.proofs.lemmas.List.Folds.{list_any-from_Any}
-use Rattle.std.proofs.lemmas.List.FromFn.{length-map-range_with_len, get_or-map-range_with_len}
+use Rattle.std.proofs.lemmas.List.FromFn.{length-range_with_len, get_or-range_with_len}
 use Rattle.sel_algebra.specs.declared.vocabulary.Symbol.{Symbol}
 use Rattle.schema_graph.specs.declared.edge.SchemaEdge.{SchemaEdge}
 use Rattle.schema_graph.specs.Edge.{taken, edge_at, start_of, end_of}
 use Rattle.schema_graph.specs.Schema.{SchemaValue}
-use Rattle.schema_graph.specs.Symbols.{first_symbols, starts_at}
-use Rattle.transitions.specs.Runs.{Runs}
-use Rattle.transitions.proofs.RunLemmas.{first_letter}
+use Rattle.schema_graph.specs.Symbols.{first_symbols, starts_at, symbols_of}
+use Rattle.schema_graph.proofs.SymbolLemmas.{first_symbols-below}
+use Rattle.gm_config.specs.declared.workload_rules.Range.{Range}
+use Rattle.sel_graph.specs.Runs.{Runs}
+use Rattle.sel_graph.proofs.RunLemmas.{first_letter}
 use Rattle.candidates.specs.Picked.{picked}
-use Rattle.candidates.proofs.PickLemmas.{filter_none, picked_some, picked_none_for_all, picked_or_others, numbers_that-at}
+use Rattle.candidates.proofs.PickLemmas.{filter_none, picked_some, picked_passes, at_slice_get, picked_or_others, numbers_that-at}
 use Rattle.sel_graph.specs.declared.states.State.{State}
 use Rattle.sel_graph.specs.declared.states.Move.{Move}
 use Rattle.sel_graph.specs.States.{place_of, place, begun, came_to, carried}
 use Rattle.sel_graph.specs.Walks.{CarriesBySymbol, HasWalk}
 use Rattle.sel_graph.specs.Moves.{ReachValue, IsReach, IsMove, moved}
-use Rattle.sel_graph.specs.Numbers.{move_of, all_moves}
+use Rattle.sel_graph.specs.Numbers.{moves_of, all_moves}
 use Rattle.sel_graph.specs.Tests.{carry, can_reach, numbers_of, is_plain, is_move, move_on, join_on, joins, meets, feasible}
-use Rattle.sel_graph.proofs.PlaceLemmas.{place-below, same_state}
+use Rattle.sel_graph.proofs.PlaceLemmas.{same_state}
 use Rattle.sel_graph.proofs.WalkLemmas.{if_some, walk_start}
-use Rattle.sel_graph.proofs.MoveLemmas.{move_of-place, move_agrees, move_inside}
-use Rattle.walk_pick.specs.Candidates.{types_of, is_live_start, start_candidates, count_candidates, moves_of, live_moves, keeps_goal, keeps_end, has_length, keeps_walk}
-use Rattle.walk_pick.specs.Laws.{HasSymbol, CountsAreAlike, StartsNeverRunOut, MovesNeverRunOut, LinksNeverRunOut, ArmsNeverRunOut, MovesHaveSymbols, LengthsNeverRunOut, SymbolsNeverRunOut}
+use Rattle.sel_graph.proofs.MoveLemmas.{moves_of-contain, move_agrees, move_inside}
+use Rattle.walk_pick.specs.Candidates.{types_of, is_live_start, start_candidates, is_live_count, live_moves, keeps_goal, keeps_end, has_length, keeps_walk}
+use Rattle.walk_pick.specs.Laws.{HasSymbol, PickedCountsAreLive, StartsNeverRunOut, MovesNeverRunOut, LinksNeverRunOut, ArmsNeverRunOut, MovesHaveSymbols, LengthsNeverRunOut, SymbolsNeverRunOut}
 
 -- ---- numbers of conjuncts, and starts
 
--- a word picks no number of conjuncts just where no word does
-pub counts_are_alike : CountsAreAlike
-counts_are_alike r shape class range w word =
-    ((λ none v also. picked_none_for_all w v (count_candidates r shape class range) word none), (λ none. none w word))
+-- the numbers of a range lie in it
+numbers_within : (range : Range) → All (λ n. (range.least ≤ n) × (n ≤ range.most)) (numbers_of range)
+numbers_within range = All-from_get_or (λ n. (range.least ≤ n) × (n ≤ range.most)) (numbers_of range) 0 (λ i inside.
+    let count = range.most + 1 - range.least in
+    let within : i < count = rw (length-range_with_len range.least count) at inside in
+    rw (get_or-range_with_len range.least count i 0 within) (omega arith, omega (arith, within)))
+
+-- a number of a range that a word picks lies in it, and passes
+pub picked_within : (range : Range) (w : ℕ) (p : ℕ → Bool) (n : ℕ) → picked w (filter p (numbers_of range)) ≡ Some n → (range.least ≤ n) × (n ≤ range.most) × (p n ≡ true)
+picked_within range w p n is =
+    let within = at_slice_get (λ n. (range.least ≤ n) × (n ≤ range.most)) (filter p (numbers_of range)) _ n (All-filter p (λ n. (range.least ≤ n) × (n ≤ range.most)) (numbers_of range) (numbers_within range)) is in
+    (within.0, within.1, picked_passes w p (numbers_of range) n is)
+
+-- a number of conjuncts that a word picks is in the range, and some start can meet the goal with it
+pub picked_counts_are_live : PickedCountsAreLive
+picked_counts_are_live r shape class range w k is = picked_within range w (is_live_count r shape class) k is
 
 -- what holds of the value of an option holds of it
 if_some_at : (P : ℕ → Type 0) (o : Option ℕ) (t : ℕ) → o ≡ Some t → IfSome o P → P t
@@ -47,15 +62,6 @@ starts_never_run_out r goal n w word any =
     (t, is, here.0, live)
 
 -- ---- moves of a kind
-
--- a move to a type stands among those of its kind
-moves_of-contain : (k : ℕ) (m : Move) → m.to < k → Contains (moves_of k m.star) m
-moves_of-contain k m inside =
-    let below = place-below k m.to m.value inside in (
-      place_of m.to m.value,
-      rw (length-map-range_with_len (move_of m.star) 0 (5 * k)) below,
-      get_or-map-range_with_len (move_of m.star) 0 (5 * k) (place_of m.to m.value) (place_of m.to m.value) m below (omega arith) ∙ move_of-place m,
-    )
 
 -- where a move passes, some move of its kind does
 any_of_kind : (test : Move → Bool) (k : ℕ) (m : Move) (star : Bool) → m.star ≡ star → m.to < k → test m ≡ true → list_any test (moves_of k star) ≡ true
@@ -174,8 +180,20 @@ any_with f b xs is any = rw is any
 pub lengths_never_run_out : LengthsNeverRunOut
 lengths_never_run_out r t m w word move =
     let (plain, star) = and_parts (is_plain r t m.to m.value) _ move in
-    picked_some w (has_length r t m) (numbers_of r.lengths) word
-    (any_with (λ n. can_reach r.schema n (begun t) (place_of m.to m.value)) (t == t) (numbers_of r.lengths) (eq-eqb t t refl) plain)
+    let (n, is, live) = picked_some w (has_length r t m) (numbers_of r.lengths) word
+    (any_with (λ n. can_reach r.schema n (begun t) (place_of m.to m.value)) (t == t) (numbers_of r.lengths) (eq-eqb t t refl) plain) in
+    let within = picked_within r.lengths w (has_length r t m) n is in
+    (n, is, within.0, within.1, live)
+
+-- a symbol that a word picks starts where the state has come, and carries it
+pub picked_carries : (g : SchemaValue) (s : State) (p : Symbol → Bool) (w : ℕ) (c : Symbol) → picked w (filter p (symbols_of g.edges s.at)) ≡ Some c → CarriesBySymbol g s c (carried g s c)
+picked_carries g s p w c is =
+    let all = first_symbols (length g.edges) in
+    let starts = starts_at g.edges s.at in
+    let known = at_slice_get (λ x. x.edge < length g.edges) (filter p (filter starts all)) _ c
+    (All-filter p (λ x. x.edge < length g.edges) (filter starts all) (All-filter starts (λ x. x.edge < length g.edges) all (first_symbols-below (length g.edges)))) is in
+    let here = at_slice_get (λ x. starts x ≡ true) (filter p (filter starts all)) _ c (All-filter p (λ x. starts x ≡ true) (filter starts all) (filter_passes starts all)) is in
+    (known, eqb-true (start_of g.edges c) s.at here, refl)
 
 -- something passes among what passes another test just where something passes both
 any_of_passing : {X : Type 0} (p q : X → Bool) (xs : List X) → list_any p (filter q xs) ≡ list_any (λ x. q x && p x) xs
@@ -200,4 +218,5 @@ symbols_never_run_out g s to n w word can =
     let (c, has, (u, leads, more)) = first_letter (carry g) (first_symbols (length g.edges)) (λ v. place v == place to) n s reach in
     let (starts, same) = if_some (start_of g.edges c == s.at) (carried g s c) u leads in
     let after : can_reach g n (carried g s c) (place to) ≡ true = ap (λ v. can_reach g n v (place to)) same ∙ more in
-    picked_some w (keeps_walk g s to n) _ word (some_symbol g s to n c has starts (and_from (to.start == s.start) (can_reach g n (carried g s c) (place to)) start after))
+    let (x, is, live) = picked_some w (keeps_walk g s to n) (symbols_of g.edges s.at) word (some_symbol g s to n c has starts (and_from (to.start == s.start) (can_reach g n (carried g s c) (place to)) start after)) in
+    (x, is, picked_carries g s (keeps_walk g s to n) w x is, live)

@@ -6,7 +6,6 @@
 --   permits shape k                             whether a shape can have k conjuncts
 --   is_live_count r shape class k               whether some start can meet the goal with k conjuncts
 --   count_candidates r shape class range        the numbers of conjuncts for which some can
---   moves_of k star                             the moves of one kind to the first k types, by type and value
 --   live_moves test k star                      those that pass a test, or where none does, those of the other kind that pass
 --   keeps_goal r s n goal m                     whether m is a move from s after which n further moves can meet the goal
 --   move_candidates r s n goal star             the moves that are
@@ -18,7 +17,7 @@
 --   keeps_walk g s to n c                       whether n further symbols after symbol c can carry the state s to `to`
 --   nth_symbol g t i                            the symbol with a number among those that start at type t
 --   symbol_candidates g s to n                  the symbols for which they can
-use Rattle.std.specs.Prelude.{ℕ, ◌*◌, Bool, true, false, not, ◌&&◌, nat_le, List, length, map, filter, slice_index_or}
+use Rattle.std.specs.Prelude.{ℕ, Bool, true, false, not, ◌&&◌, nat_le, List, length, filter, slice_index_or}
 use Rattle.std.specs.List.{range_with_len, list_any}
 use Rattle.sel_algebra.specs.declared.vocabulary.Class.{Class}
 use Rattle.sel_algebra.specs.declared.vocabulary.Shape.{Shape}
@@ -34,7 +33,7 @@ use Rattle.sel_graph.specs.declared.states.Move.{Move}
 use Rattle.sel_graph.specs.declared.states.Goal.{Goal}
 use Rattle.sel_graph.specs.States.{begun, came_to, carried}
 use Rattle.sel_graph.specs.Moves.{ReachValue, moved}
-use Rattle.sel_graph.specs.Numbers.{move_of}
+use Rattle.sel_graph.specs.Numbers.{moves_of}
 use Rattle.sel_graph.specs.Tests.{can_walk, numbers_of, is_move, joins, feasible}
 
 -- the types of a schema
@@ -65,10 +64,6 @@ is_live_count r shape class k = permits shape k && list_any (is_live_start r (go
 -- the numbers of conjuncts of a range with which some start can meet the goal
 abbrev pub count_candidates : ReachValue → Shape → Class → Range → List ℕ
 count_candidates r shape class range = filter (is_live_count r shape class) (numbers_of range)
-
--- the moves of one kind to the first k types
-abbrev pub moves_of : ℕ → Bool → List Move
-moves_of k star = map (move_of star) (range_with_len 0 (5 * k))
 
 -- the moves of one kind that pass a test, or where there are none, those of the other kind
 abbrev pub live_moves : (Move → Bool) → ℕ → Bool → List Move

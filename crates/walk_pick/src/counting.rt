@@ -1,6 +1,6 @@
 //! The number of conjuncts of a rule, and the type at which its spine starts.
 
-ghost use Rattle.std.specs.Prelude.{◌≡◌, ◌↔◌, ◌<◌, ◌≤◌, ◌+◌, ◌-◌, [], length, IsNone, IfSome, option_map};
+ghost use Rattle.std.specs.Prelude.{◌≡◌, ◌↔◌, ◌<◌, ◌≤◌, ◌+◌, ◌-◌, [], length, IsNone, IfSome, option_map, true};
 ghost use Rattle.std.specs.List.{list_any};
 ghost use Rattle.candidates.specs.Picked.{picked, numbers_that};
 ghost use Rattle.sel_algebra.specs.declared.TheConstants.{TYPES_MOST};
@@ -83,6 +83,8 @@ pub fn pick_count(reach: &Reach, shape: Shape, class: Class, conjuncts: Range, w
     requires few { conjuncts.most ≤ conjuncts_most }
     ensures value { result ≡ picked w (count_candidates reach.now shape class conjuncts) }
     ensures none { IsNone result ↔ (count_candidates reach.now shape class conjuncts ≡ []) }
+    ensures skeleton { IfSome result (λ k. HasSkeleton shape k) }
+    ensures live { IfSome result (λ k. (conjuncts.least ≤ k) × (k ≤ conjuncts.most) × (is_live_count reach.now shape class k ≡ true)) }
 {
     let counts = Counts {
         reach,
@@ -103,6 +105,7 @@ pub fn pick_start(reach: &Reach, moves: u8, goal: Goal, w: u64) -> Option<u8>
     requires second { goal.second ≤ second_most }
     ensures value { result ≡ picked w (start_candidates reach.now goal moves) }
     ensures none { IsNone result ↔ (start_candidates reach.now goal moves ≡ []) }
+    ensures live { IfSome result (λ t. (t < length reach.now.schema.kinds) × (is_live_start reach.now goal moves t ≡ true)) }
 {
     let starts = Starts {
         reach,

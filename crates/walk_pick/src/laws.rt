@@ -1,11 +1,11 @@
 //! The laws of picks: from a live start on, no later pick is without a candidate. Each is the contract of a function
 //! that does nothing.
-ghost use Rattle.walk_pick.specs.Laws.{CountsAreAlike, StartsNeverRunOut, MovesNeverRunOut, LinksNeverRunOut, ArmsNeverRunOut, MovesHaveSymbols, LengthsNeverRunOut, SymbolsNeverRunOut};
+ghost use Rattle.walk_pick.specs.Laws.{PickedCountsAreLive, StartsNeverRunOut, MovesNeverRunOut, LinksNeverRunOut, ArmsNeverRunOut, MovesHaveSymbols, LengthsNeverRunOut, SymbolsNeverRunOut};
 
-/// A word picks no number of conjuncts exactly where no word picks one.
-#[tactic(auto, using(crate::proofs::LawLemmas::counts_are_alike))]
-pub fn counts_are_alike()
-    ensures { CountsAreAlike }
+/// A number of conjuncts that a word picks is in the range, and some start can meet the goal with it.
+#[tactic(auto, using(crate::proofs::LawLemmas::picked_counts_are_live))]
+pub fn picked_counts_are_live()
+    ensures { PickedCountsAreLive }
 {}
 
 /// Where some start can meet the goal, each word picks a start that can.
@@ -40,13 +40,14 @@ pub fn moves_have_symbols()
     ensures { MovesHaveSymbols }
 {}
 
-/// Of a move each word picks a length that its words can have.
+/// Of a move each word picks a permitted length that its words can have.
 #[tactic(auto, using(crate::proofs::LawLemmas::lengths_never_run_out))]
 pub fn lengths_never_run_out()
     ensures { LengthsNeverRunOut }
 {}
 
-/// Where one symbol and so many more can lead to a state, each word picks a symbol after which so many can.
+/// Where one symbol and so many more can lead to a state, each word picks a symbol that carries the state there, after
+/// which so many can.
 #[tactic(auto, using(crate::proofs::LawLemmas::symbols_never_run_out))]
 pub fn symbols_never_run_out()
     ensures { SymbolsNeverRunOut }

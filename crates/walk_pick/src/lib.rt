@@ -7,8 +7,6 @@ mod counting;
 pub mod laws;
 mod moving;
 mod ranges;
-#[cfg(test)]
-mod tests;
 mod walking;
 
 pub use counting::{pick_count, pick_start};

@@ -1,7 +1,8 @@
 //! The length and the symbols of a word.
 
-ghost use Rattle.std.specs.Prelude.{◌≡◌, ◌↔◌, ◌<◌, ◌≤◌, ◌+◌, ◌-◌, [], length, slice_index_or, IsNone, IfSome, option_map};
+ghost use Rattle.std.specs.Prelude.{◌≡◌, ◌↔◌, ◌<◌, ◌≤◌, ◌+◌, ◌-◌, true, [], length, slice_index_or, IsNone, IfSome, option_map};
 ghost use Rattle.candidates.specs.Picked.{picked, numbers_that};
+ghost use Rattle.schema_graph.specs.Edge.{start_of};
 ghost use Rattle.schema_graph.specs.Symbols.{symbols_of};
 ghost use Rattle.sel_graph.specs.Moves.{symbols_most};
 ghost use Rattle.sel_graph.specs.States.{came_to};
@@ -88,6 +89,7 @@ pub fn pick_length(reach: &Reach, from: u8, mv: Move, range: Range, w: u64) -> O
     requires few { range.most ≤ symbols_most }
     ensures value { result ≡ picked w (length_candidates reach.now from mv range) }
     ensures none { IsNone result ↔ (length_candidates reach.now from mv range ≡ []) }
+    ensures live { IfSome result (λ n. (range.least ≤ n) × (n ≤ range.most) × (has_length reach.now from mv n ≡ true)) }
 {
     let lengths = Lengths {
         reach,
@@ -118,6 +120,7 @@ pub fn pick_symbol(
     requires few { left + 1 ≤ symbols_most }
     ensures value { result ≡ picked w (symbol_candidates schema.now at to left) }
     ensures none { IsNone result ↔ (symbol_candidates schema.now at to left ≡ []) }
+    ensures live { IfSome result (λ c. (c.edge < length schema.now.edges) × (start_of schema.now.edges c ≡ at.at) × (keeps_walk schema.now at to left c ≡ true)) }
 {
     let symbols = Symbols {
         reach,
@@ -138,6 +141,7 @@ fn nth_symbol(schema: &Schema, t: u8, i: u32) -> Symbol
     requires i { i < length (symbols_of schema.now.edges t) }
     ensures symbol { result ≡ nth_symbol schema.now t i }
     ensures edge { result.edge < length schema.now.edges }
+    ensures start { start_of schema.now.edges result ≡ t }
 {
     schema.symbol_from(t, i)
 }

@@ -1,0 +1,10 @@
+use Rattle.std.proofs.Common.{sym, ◌∙◌}
+use Rattle.sel_graph.proofs.StepLemmas.{leads_inside}
+use Rattle.walk_pick.proofs.PickLemmas.{move_leads}
+use Rattle.walk_pick.proofs.moving.ArmMovesMoveTest.plain.Goals as goal
+
+pub returns-clause-within : goal.returns-clause-within
+returns-clause-within c = let m = c.args.self.now in λ p here. leads_inside m.reach.now m.known m.at p (sym (c.plain_moves.ensures p) ∙ here)
+
+pub returns-clause-all : goal.returns-clause-all
+returns-clause-all c = let m = c.args.self.now in let r = m.reach.now in λ star p passes. c.plain_moves.ensures p ∙ move_leads r m.at star p (passes)
