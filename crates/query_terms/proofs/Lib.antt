@@ -1,0 +1,7 @@
+pub mod StoreLemmas
+pub mod SpanLemmas
+pub mod WordLemmas
+pub mod LayoutLemmas
+pub mod TiedLemmas
+pub mod TreeLemmas
+pub mod QueryLemmas

@@ -1,0 +1,12 @@
+pub mod Values
+pub mod Store
+pub mod Numbering
+pub mod Trees
+pub mod Spans
+pub mod Lists
+pub mod Building
+pub mod Underway
+pub mod Layout
+pub mod Tied
+pub mod View
+pub mod Laws

@@ -1,0 +1,105 @@
+//! The terms of a query that is being built.
+
+ghost use Rattle.std.specs.Prelude.{◌≡◌, ◌≤◌, ◌+◌, [], length, None, IfOk, OnOk, is_some, true};
+ghost use Rattle.query_terms.specs.declared.terms.Term.TheVariants.{Step};
+ghost use Rattle.query_terms.specs.Store.{terms_most};
+ghost use Rattle.query_terms.specs.Underway.{with_step, with_choice, with_end, closed};
+
+use crate::store::TermStore;
+use crate::terms::{Term, TermId};
+use gm_text::Arena;
+use std::alloc::{AllocError, Global};
+use std::marker::Model;
+
+/// The terms so far, with those of the word and of the conjunct that are begun.
+#[derive(Drop)]
+pub(crate) struct Numbering<'a> {
+    terms: TermStore<'a>,
+    word: Option<TermId>,
+    union: Option<TermId>,
+}
+
+impl<'a> Model for Numbering<'a> {
+    ghost use Rattle.query_terms.specs.Underway.{Underway, IsUnderway};
+
+    ghost Value = { Underway };
+
+    ghost view = { λ n. record { terms = n.terms; word = n.word; union = n.union } };
+
+    ghost invariant = { λ n. IsUnderway (record { terms = n.terms; word = n.word; union = n.union }) };
+}
+
+impl<'a> Numbering<'a> {
+    /// No term.
+    pub(crate) fn new(alloc: Global, arena: &'a Arena) -> Numbering<'a>
+        ensures { result ≡ record { terms = []; word = None; union = None } }
+    {
+        Numbering {
+            terms: TermStore::new(alloc, arena),
+            word: None,
+            union: None,
+        }
+    }
+
+    /// The word goes on with a step.
+    pub(crate) fn step(&mut self, label: u8, back: bool) -> Result<(), AllocError>
+        requires room { length self.old.terms + 2 ≤ terms_most }
+        ensures goes_on { OnOk result (self.new ≡ with_step self.old (Step label back)) }
+        ensures few { length self.new.terms ≤ length self.old.terms + 2 }
+    {
+        let step = self.terms.put(Term::Step { label, back })?;
+        let word = match self.word {
+            None => step,
+            Some(before) => self.terms.put(Term::Seq(before, step))?,
+        };
+        self.word = Some(word);
+        Ok(())
+    }
+
+    /// The word that was begun is one of the conjunct's.
+    pub(crate) fn end_word(&mut self) -> Result<(), AllocError>
+        requires begun { is_some self.old.word ≡ true }
+        requires room { length self.old.terms + 1 ≤ terms_most }
+        ensures goes_on { OnOk result (self.new ≡ with_choice self.old) }
+        ensures few { length self.new.terms ≤ length self.old.terms + 1 }
+    {
+        let Some(word) = self.word else {
+            unreachable!()
+        };
+        let union = match self.union {
+            None => word,
+            Some(before) => self.terms.put(Term::Alt(before, word))?,
+        };
+        self.word = None;
+        self.union = Some(union);
+        Ok(())
+    }
+
+    /// The conjunct is ended. The answer is its term.
+    pub(crate) fn end_conjunct(&mut self, star: bool) -> Result<TermId, AllocError>
+        requires begun { is_some self.old.union ≡ true }
+        requires word { self.old.word ≡ None }
+        requires room { length self.old.terms + 1 ≤ terms_most }
+        ensures goes_on { OnOk result (self.new ≡ with_end star self.old) }
+        ensures term { IfOk result (λ id. id ≡ (closed star self.old).number) }
+        ensures few { length self.new.terms ≤ length self.old.terms + 1 }
+    {
+        let Some(union) = self.union else {
+            unreachable!()
+        };
+        let term = if star {
+            self.terms.put(Term::Star(union))?
+        } else {
+            union
+        };
+        self.union = None;
+        Ok(term)
+    }
+
+    /// The terms.
+    pub(crate) fn into_terms(self) -> TermStore<'a>
+        ensures { result ≡ self.entry.terms }
+    {
+        self.terms
+    }
+}
