@@ -1,2 +1,14 @@
-pub mod WordLemmas
 pub mod Printed
+pub mod WordLemmas
+pub mod PathComplete
+pub mod PathSound
+pub mod TextComplete
+pub mod TextSound
+pub mod RunLemmas
+pub mod ScanLemmas
+pub mod PlaceLemmas
+pub mod LevelLemmas
+pub mod LayoutLemmas
+pub mod SpotLemmas
+pub mod ReaderLemmas
+pub mod QueryLemmas

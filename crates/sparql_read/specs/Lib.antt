@@ -1,2 +1,13 @@
 pub mod Plain
 pub mod Names
+pub mod Tokens
+pub mod Grammar
+pub mod Text
+pub mod Layout
+pub mod PathMachine
+pub mod TextMachine
+pub mod View
+pub mod State
+pub mod Query
+pub mod Places
+pub mod Reader

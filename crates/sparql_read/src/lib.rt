@@ -1,8 +1,17 @@
-//! SPARQL texts: so far the plain form, one group of one pattern with one predicate.
+//! Reads texts of a subset of SPARQL: groups of patterns whose paths are property paths, united.
 #![tactic(auto)]
 
+pub mod laws;
+mod levels;
+mod lexer;
+mod paths;
+mod places;
 mod plain;
-#[cfg(test)]
-mod tests;
+mod query;
+mod reader;
+mod tokens;
 
+pub use paths::{Path, PathId};
 pub use plain::{PlainSparql, SparqlWord, read_plain_sparql};
+pub use query::{Pattern, SparqlQuery};
+pub use reader::{SparqlError, read_sparql};
