@@ -1,6 +1,7 @@
 -- The text of a list of triples: a line for each of them, in order.
 --   node_most               the greatest number of a node
 --   label_most              the greatest number of a label
+--   line_most               the most bytes of a line
 --   IsInRange triple        its numbers are at most those
 --   edge_words triple       the words of its line
 --   edge_bytes triple       the bytes of its line, without the LF that ends it
@@ -24,6 +25,10 @@ node_most = 999999
 -- the greatest number of a label
 abbrev pub label_most : ℕ
 label_most = 63
+
+-- the most bytes of a line: two nodes of six digits, a label of two, and three bytes more
+abbrev pub line_most : ℕ
+line_most = 17
 
 -- both nodes and the label are at most those
 pub record IsInRange (triple : Triple) : Type 0 where

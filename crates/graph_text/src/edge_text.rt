@@ -49,13 +49,13 @@ impl From<AllocError> for GraphError {
 /// # Errors
 ///
 /// `AllocError` where memory runs out, and then a prefix of the text has been appended.
-pub fn write_edges(out: &mut Vec<u8>, edges: &Edges) -> Result<(), AllocError>
+pub fn write_edges(alloc: Global, out: &mut Vec<u8>, edges: &Edges) -> Result<(), AllocError>
     requires { All IsInRange edges.now }
     ensures ok { OnOk result (out.new.items ≡ out.old.items ++ edges_text edges.now) }
     ensures err { OnErr result (AppendsPart out.old.items out.new.items (edges_text edges.now)) }
 {
     for edge in edges.as_slice() {
-        write_edge(out, edge)?;
+        write_edge(alloc, out, edge)?;
     }
     Ok(())
 }
@@ -88,21 +88,21 @@ pub fn read_edges(alloc: Global, bytes: &[u8]) -> Result<Graph, GraphError>
 }
 
 /// Appends the line of a triple.
-fn write_edge(out: &mut Vec<u8>, edge: &Triple) -> Result<(), AllocError>
+fn write_edge(alloc: Global, out: &mut Vec<u8>, edge: &Triple) -> Result<(), AllocError>
     ensures ok { OnOk result (out.new.items ≡ out.old.items ++ edge_line edge.now) }
     ensures err { OnErr result (AppendsPart out.old.items out.new.items (edge_line edge.now)) }
 {
-    write_number(out, edge.src, b' ')?;
-    write_number(out, edge.label, b' ')?;
-    write_number(out, edge.trg, b'\n')
+    write_number(alloc, out, edge.src, b' ')?;
+    write_number(alloc, out, edge.label, b' ')?;
+    write_number(alloc, out, edge.trg, b'\n')
 }
 
 /// Appends the decimal of a number, and the byte that stands after it.
-fn write_number(out: &mut Vec<u8>, n: u32, end: u8) -> Result<(), AllocError>
+fn write_number(alloc: Global, out: &mut Vec<u8>, n: u32, end: u8) -> Result<(), AllocError>
     ensures ok { OnOk result (out.new.items ≡ out.old.items ++ (decimal n ++ end ∷ [])) }
     ensures err { OnErr result (AppendsPart out.old.items out.new.items (decimal n ++ end ∷ [])) }
 {
-    write_decimal(out, n.into())?;
+    write_decimal(alloc, out, n.into())?;
     out.push(end)?;
     Ok(())
 }
