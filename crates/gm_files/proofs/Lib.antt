@@ -1,3 +1,4 @@
 pub mod Gains
 pub mod Counting
 pub mod Splits
+pub mod PieceLemmas

@@ -1,4 +1,6 @@
 pub mod Calls
+pub mod Pieces
+pub mod PieceLaws
 pub mod Leaves
 pub mod FileText
 pub mod QueryName
