@@ -1,11 +1,13 @@
 pub mod AllEdgesLemmas
-pub mod ConformingLemmas
 pub mod DrawingLemmas
 pub mod FreeSideLemmas
 pub mod LimitLemmas
 pub mod MatchedLemmas
 pub mod MatchingLemmas
+pub mod MeetingLemmas
+pub mod NodeLemmas
 pub mod PlaceLemmas
+pub mod RangeLemmas
 pub mod RankLemmas
 pub mod SideLemmas
 pub mod StubLemmas

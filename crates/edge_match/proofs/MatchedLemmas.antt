@@ -6,7 +6,7 @@ use Rattle.graph_text.specs.declared.graphs.Triple.{Triple}
 use Rattle.edge_match.specs.Stubs.{Stubs, rank, stub_nodes}
 use Rattle.edge_match.specs.Matching.{IsMatching}
 use Rattle.edge_match.specs.Conforming.{NodeDegrees, edges_at}
-use Rattle.edge_match.proofs.ConformingLemmas.{times, times-stub_nodes, IsBetween, All-stub_nodes}
+use Rattle.edge_match.proofs.NodeLemmas.{times, times-stub_nodes, IsBetween, All-stub_nodes}
 use Rattle.edge_match.proofs.PlaceLemmas.{sum_by-places, sum_by-different}
 
 -- at one of their ends, edge r has the node of the stub of rank r

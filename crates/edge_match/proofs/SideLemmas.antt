@@ -13,7 +13,7 @@ use Rattle.edge_match.specs.declared.config_sides.Side.{Side}
 use Rattle.edge_match.specs.declared.config_sides.Side.TheVariants.{Out, In}
 use Rattle.edge_match.specs.declared.errors.TooManyStubs.{TooManyStubs}
 use Rattle.edge_match.specs.ConfigSides.{opposite, no_constraint, constraint_at, is_free_spec, is_free, side_count}
-use Rattle.edge_match.specs.DrawnDegrees.{degree_tag, pick_tag, table_degrees, table_total, side_degrees}
+use Rattle.edge_match.specs.DrawnDegrees.{degree_tag, pick_tag, table_degrees, table_total, side_degrees, side_total}
 use Rattle.edge_match.specs.FreeSide.{picked_degree}
 use Rattle.edge_match.specs.StubLimit.{stubs_most}
 use Rattle.edge_match.specs.Limit.{side_over, first_side_over}
@@ -71,6 +71,10 @@ table_total-within config seed c In none drawn =
 pub side_degrees-drawn : (config : ConfigValue) (seed c : ℕ) (side : Side) → is_free config c side ≡ false
     → side_degrees config seed c side ≡ table_degrees config seed c side
 side_degrees-drawn config seed c side drawn = rw drawn refl
+
+pub side_total-drawn : (config : ConfigValue) (seed c : ℕ) (side : Side) → is_free config c side ≡ false
+    → side_total config seed c side ≡ table_total config seed c side
+side_total-drawn config seed c side drawn = rw drawn refl
 
 length-cond : (b : Bool) (xs ys : List ℕ) (n : ℕ) → length xs ≡ n → length ys ≡ n → length (cond b xs ys) ≡ n
 length-cond true xs ys n yes_count no_count = yes_count

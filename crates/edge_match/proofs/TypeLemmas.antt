@@ -1,5 +1,5 @@
 -- No triple is one of two constraints.
-use Rattle.std.proofs.Common.{◌≡◌, ℕ, zero, suc, ◌+◌, ◌<◌, ◌≤◌, Bool, true, ◌&&◌, ◌==◌, nat_lt, nat_le, List, [], ◌∷◌, length, map, take, get_or, sum, inl, inr, sym, ◌∙◌, arith}
+use Rattle.std.proofs.Common.{◌≡◌, ℕ, zero, suc, ◌+◌, ◌<◌, ◌≤◌, true, ◌&&◌, ◌==◌, nat_lt, nat_le, List, [], ◌∷◌, length, map, take, get_or, sum, inl, inr, sym, ◌∙◌, arith}
 use Rattle.std.proofs.lemmas.Bool.{cases_lt}
 use Rattle.std.proofs.lemmas.Bool.Decides.{nat_tests}
 use Rattle.std.proofs.lemmas.List.{length-map, get_or-map}
@@ -10,7 +10,7 @@ use Rattle.gm_config.proofs.ConfigLemmas.{three_true}
 use Rattle.edge_match.specs.declared.config_sides.Side.TheVariants.{Out, In}
 use Rattle.edge_match.specs.ConfigSides.{no_constraint, constraint_at, label_at}
 use Rattle.edge_match.specs.ConformingGraph.{is_node_at, is_triple_of}
-use Rattle.edge_match.proofs.ConformingLemmas.{IsBetween}
+use Rattle.edge_match.proofs.NodeLemmas.{IsBetween}
 
 -- the elements before an element, and that element, are among those before each later one
 sum-take-le : (xs : List ℕ) (s t : ℕ) → s < t → sum (take s xs) + get_or xs s 0 ≤ sum (take t xs)

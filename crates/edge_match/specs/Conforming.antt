@@ -1,22 +1,16 @@
 -- Edges that keep to the degrees of the nodes at both their ends.
 --   NodeDegrees                     the nodes of a side, and their degrees
---   degrees_of side                 those of a side
 --   edges_at end edges node         how many edges have a node at one of their ends
 --   KeepsDegrees end side edges     no node of a side has more edges than its degree
 --   MeetsDegrees end side edges     each node of a side has as many edges as its degree
 --   Conforms outs ins label edges   edges keep to the degrees of two sides, and use up the smaller side
 use Rattle.std.specs.Prelude.{◌≡◌, ℕ, ◌+◌, ◌<◌, ◌≤◌, ◌==◌, List, length, min, sum, slice_index, All, count_by}
 use Rattle.graph_text.specs.declared.graphs.Triple.{Triple}
-use Rattle.edge_match.specs.declared.sides.SideStubs.{SideStubs}
 
 -- nodes from the first one on, each with its degree
 pub record NodeDegrees : Type 0 where
   pub first : ℕ
   pub degrees : List ℕ
-
--- the nodes of a side and their degrees
-abbrev pub degrees_of : SideStubs → NodeDegrees
-degrees_of side = record { first = side.first; degrees = side.degrees.items }
 
 -- how many edges have a node at one of their ends
 abbrev pub edges_at : (Triple → ℕ) → List Triple → ℕ → ℕ

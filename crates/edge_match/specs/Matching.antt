@@ -1,12 +1,19 @@
 -- The edges that join the stubs of two sides by rank.
-use Rattle.std.specs.Prelude.{◌≡◌, ℕ, ◌<◌, List, length, min, Some, slice_get, slice_index}
+--   edge_between label nodes             the edge from one node to another
+--   edges_between label sources targets  the edges that join the nodes at equal places of two lists
+--   IsMatching outs ins label edges      the edges that join the stubs of two sides by rank
+use Rattle.std.specs.Prelude.{◌≡◌, ℕ, ◌<◌, List, length, map, min, Some, slice_get, slice_index}
+use Rattle.std.specs.List.{zip}
 use Rattle.graph_text.specs.declared.graphs.Triple.{Triple}
 use Rattle.edge_match.specs.Stubs.{Stubs, HasRank}
-use Rattle.edge_match.specs.declared.stubs.Stub.{Stub}
 
--- the edge that joins two stubs
-abbrev pub edge_between : ℕ → Stub × Stub → Triple
-edge_between label (source, target) = record { src = source.node; label = label; trg = target.node }
+-- the edge from one node to another
+abbrev pub edge_between : ℕ → ℕ × ℕ → Triple
+edge_between label (source, target) = record { src = source; label = label; trg = target }
+
+-- the edges that join the nodes at equal places, up to the end of the shorter list
+abbrev pub edges_between : ℕ → List ℕ → List ℕ → List Triple
+edges_between label sources targets = map (edge_between label) (zip sources targets)
 
 -- edge r joins the out stub of rank r to the in stub of rank r, for each r below the smaller number of stubs
 pub record IsMatching (outs ins : Stubs) (label : ℕ) (edges : List Triple) : Type 0 where

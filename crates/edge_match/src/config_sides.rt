@@ -86,7 +86,8 @@ pub(crate) fn spec_of(config: &Config, c: u8, side: Side) -> &DegreeSpec
 /// The number of the label of a constraint.
 pub(crate) fn label_of(config: &Config, c: u8) -> u8
     requires { c < length config.now.constraints }
-    ensures { result ≡ label_at config.now c }
+    ensures label { result ≡ label_at config.now c }
+    ensures config { IsConfig config.now }
 {
     config.constraint(c).label
 }

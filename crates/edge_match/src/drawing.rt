@@ -4,7 +4,7 @@ ghost use Rattle.std.specs.Prelude.{◌≡◌, ◌<◌, ◌≤◌, ℕ, false, t
 ghost use Rattle.gm_config.specs.Limits.{nodes_most};
 ghost use Rattle.edge_match.specs.ConfigSides.{opposite, is_free};
 ghost use Rattle.edge_match.specs.declared.errors.TooManyStubs.{TooManyStubs};
-ghost use Rattle.edge_match.specs.DrawnDegrees.{degrees_by, table_degrees, table_total, side_degrees};
+ghost use Rattle.edge_match.specs.DrawnDegrees.{degrees_by, table_degrees, table_total, side_degrees, side_total};
 ghost use Rattle.edge_match.specs.StubLimit.{stubs_most};
 ghost use Rattle.edge_match.specs.Limit.{too_many, side_over, first_side_over, IsWithinLimit, IsFirstOver};
 
@@ -32,13 +32,13 @@ pub fn side_total(
 ) -> Result<u64, AllocError>
     requires known { c < length config.now.constraints }
     requires drawn { is_free config.now c side ≡ false }
-    ensures { IfOk result (λ total. total ≡ sum (side_degrees config.now seed c side)) }
+    ensures { IfOk result (λ total. total ≡ side_total config.now seed c side) }
 {
     let degrees = table_degrees(alloc, config, seed, c, side)?;
     Ok(total_of(&degrees))
 }
 
-/// The first side that is not free and whose total is above [`STUBS_MOST`], by constraint, and out before in.
+/// The first side that is not free and whose total is above 4,194,304, by constraint, and out before in.
 /// It fails only where memory runs out.
 pub fn first_over(
     alloc: Global,

@@ -14,7 +14,7 @@ pub struct TooManyStubs {
     pub constraint: u8,
     /// Its side.
     pub side: Side,
-    /// The number of the side's stubs, above [`STUBS_MOST`](crate::STUBS_MOST).
+    /// The number of the side's stubs, above 4,194,304.
     pub total: u64,
 }
 

@@ -8,7 +8,7 @@ use std::alloc::{AllocError, Global};
 
 /// The degrees of the nodes of a free side: how many of its stubs pick each node, by words of a stream.
 /// Without a node there is no stub. It fails only where memory runs out.
-pub fn counted(
+pub(crate) fn counted(
     alloc: Global,
     seed: u64,
     stream: u128,

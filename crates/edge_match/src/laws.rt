@@ -1,6 +1,6 @@
 //! What is true of the edges of all constraints together.
 
-ghost use Rattle.edge_match.specs.AllEdges.{AllEdgesConform, AllEdgesAreOne};
+ghost use Rattle.edge_match.specs.AllEdges.{AllEdgesConform, AllEdgesAreOne, SmallerSideIsMet};
 
 /// The edges of all constraints, one constraint after another, conform to the configuration: each of them has
 /// the source type, the label and the target type of exactly one constraint, no node has more edges of a
@@ -12,4 +12,10 @@ pub fn all_edges_conform()
 /// A configuration and a seed have one list of edges alone.
 pub fn all_edges_are_one()
     ensures { AllEdgesAreOne }
+{}
+
+/// In each list of triples that conforms, each node has exactly its drawn degree on the side of a constraint that has
+/// the smaller total, and on both sides where the totals are equal.
+pub fn smaller_side_is_met()
+    ensures { SmallerSideIsMet }
 {}

@@ -4,23 +4,23 @@ ghost use Rattle.std.specs.Prelude.{◌≡◌, ◌+◌, ◌≤◌, ◌^◌, leng
 ghost use Rattle.edge_match.specs.StubLimit.{stubs_most};
 
 /// The most stubs that one side may have.
-pub const STUBS_MOST: u64 = 4_194_304;
+pub(crate) const STUBS_MOST: u64 = 4_194_304;
 
 /// One side of a constraint: its nodes, each with as many stubs as its degree.
 #[derive(Drop)]
-pub struct SideStubs {
+pub(crate) struct SideStubs {
     /// The first node. The others follow it, one for each degree.
-    pub first: u32,
+    pub(crate) first: u32,
     /// The degree of each node.
-    pub degrees: Vec<u32>,
+    pub(crate) degrees: Vec<u32>,
     /// The stream of random words that the keys of the stubs are drawn from.
-    pub stream: u128,
+    pub(crate) stream: u128,
     ghost numbered: { first + length degrees.items ≤ 2 ^ 32 },
     ghost few: { sum degrees.items ≤ stubs_most },
 }
 
 /// The number of stubs that nodes with these degrees have.
-pub fn total_of(degrees: &[u32]) -> u64
+pub(crate) fn total_of(degrees: &[u32]) -> u64
     requires { length degrees.now ≤ 2 ^ 32 }
     ensures { result ≡ sum degrees.now }
 {
