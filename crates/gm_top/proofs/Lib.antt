@@ -1,6 +1,11 @@
 pub mod CommandLemmas
+pub mod DecisionLemmas
+pub mod OrderLemmas
+pub mod EdgeLemmas
+pub mod PutLemmas
 pub mod GraphLemmas
-pub mod InputLemmas
 pub mod RowLemmas
+pub mod PlainLemmas
+pub mod LawLemmas
 pub mod RunLemmas
 pub mod WordLemmas

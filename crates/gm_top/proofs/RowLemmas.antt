@@ -1,10 +1,15 @@
 -- The printed text means the query: its one reading has the query's rows over every graph.
-use Rattle.std.proofs.Common.{◌≡◌, ◌↔◌, ℕ, zero, suc, List, [], ◌∷◌, cond, refl, subst, Some, slice_get, Contains, codes}
+use Rattle.std.proofs.Common.{◌≡◌, ◌↔◌, ℕ, zero, suc, List, [], ◌∷◌, cond, refl, subst, Option, Some, slice_get, Contains, codes}
 use Rattle.std.specs.Str.{bytes_eq}
 use Rattle.graph_text.specs.declared.graphs.Triple.{Triple}
 use Rattle.sparql_read.specs.Plain.{edge_reading, plain_sparql_text}
 use Rattle.sparql_read.proofs.Printed.{IsPlainSparql-plain_sparql_text}
 use Rattle.gm_text.specs.Name.{IsName}
+use Rattle.gm_io.specs.FileList.{FileList}
+use Rattle.gm_files.proofs.Gains.{GainedPart-none}
+use Rattle.gm_top.specs.declared.work.Work.TheVariants.{Query}
+use Rattle.gm_top.specs.Outputs.{query, name_of, MakesPart}
+use Rattle.gm_top.proofs.PutLemmas.{KeepsFiles-same}
 use Rattle.gm_top.specs.Rows.{IsQueryRow, IsSparqlRow, MeansQuery}
 
 -- of one name, only the label 0 has it
@@ -25,3 +30,7 @@ IsSparqlRow-plain label graph a b = (
 
 pub MeansQuery-plain : (label : List ℕ) → IsName label → MeansQuery label (plain_sparql_text label)
 MeansQuery-plain label name = record { reading = edge_reading label; is_read = IsPlainSparql-plain_sparql_text label name; rows = IsSparqlRow-plain label }
+
+-- a folder that is as before has a part of the query's file
+pub query-part-none : (label : List ℕ) (files : Option FileList) → MakesPart (Query label) files files
+query-part-none label files = ((name_of (query label), plain_sparql_text label) ∷ [], (refl, refl, tt), GainedPart-none files files _ (KeepsFiles-same files))

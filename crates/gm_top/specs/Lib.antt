@@ -1,5 +1,8 @@
 pub mod Command
-pub mod Input
 pub mod Outcome
+pub mod Decision
 pub mod Rows
+pub mod Outputs
+pub mod Putting
 pub mod Run
+pub mod Laws

@@ -4,9 +4,13 @@
 --   is_after_reading outcome               it comes only after the whole input was read
 --   is_refusal outcome                     it is decided before a file is made
 --   is_of_bytes outcome                    the bytes of the input decide it
---   is_of_input outcome                    it comes before the text of a file is made
+--   is_decision result                     it is a work, or such an outcome
+--   is_of_deciding outcome                 it can come while an input is decided that was read
+--   is_of_input outcome                    it can come before a work is decided
+--   is_of_writing outcome                  it can come while files are made
+--   broken_outcome, stubs_outcome          the outcome of a broken rule, and of a side with too many stubs
 --   read_outcome, config_outcome, ..       the outcome of an error of a part of the work
-use Rattle.std.specs.Prelude.{ℕ, Bool, true, false, List, ◌++◌, codes, decimal}
+use Rattle.std.specs.Prelude.{ℕ, Bool, true, false, List, ◌++◌, codes, decimal, Result, Ok, Err}
 use Rattle.gm_io.specs.declared.reading.ReadError.{ReadError}
 use Rattle.gm_io.specs.declared.reading.ReadError.TheVariants as read
 use Rattle.gm_config.specs.declared.errors.ConfigFault.TheVariants as fault
@@ -18,6 +22,7 @@ use Rattle.edge_match.specs.declared.errors.TooManyStubs.{TooManyStubs}
 use Rattle.edge_match.specs.declared.errors.MatchError.{MatchError}
 use Rattle.edge_match.specs.declared.errors.MatchError.TheVariants as match
 use Rattle.gm_top.specs.declared.outcomes.Outcome.{Outcome}
+use Rattle.gm_top.specs.declared.work.Work.{Work}
 use Rattle.gm_top.specs.declared.outcomes.Outcome.TheVariants as outcome
 
 abbrev pub status_of : Outcome → ℕ
@@ -50,42 +55,68 @@ line_of outcome.Done = codes "gmark: done"
 line_of outcome.Usage = codes "gmark: unknown command line"
 line_of outcome.InputTooLong = codes "gmark: input longer than 16777216 bytes"
 line_of (outcome.Config fault.NotJson) = codes "gmark: configuration is not JSON"
-line_of (outcome.Config (fault.Broken broken)) = broken_line broken.rule broken.index
+line_of (outcome.Config (fault.Broken rule index)) = broken_line rule index
 line_of outcome.ReadFault = codes "gmark: reading failed"
 line_of outcome.WriteFault = codes "gmark: writing failed"
 line_of outcome.NoMemory = codes "gmark: out of memory"
 line_of (outcome.TooManyStubs constraint side total) = stubs_line constraint side total
 line_of outcome.NotBuilt = codes "gmark: form not built yet"
 
--- outcomes that come only after the whole input was read
+-- outcomes that come only after the whole input was read: all but these
 abbrev pub is_after_reading : Outcome → Bool
-is_after_reading outcome.Done = true
-is_after_reading (outcome.Config fault) = true
-is_after_reading outcome.NotBuilt = true
-is_after_reading (outcome.TooManyStubs constraint side total) = true
-is_after_reading outcome.WriteFault = true
-is_after_reading _ = false
+is_after_reading outcome.Usage = false
+is_after_reading outcome.ReadFault = false
+is_after_reading outcome.InputTooLong = false
+is_after_reading outcome.NoMemory = false
+is_after_reading _ = true
 
--- refusals, which are decided before a file is made
+-- refusals, which are decided before a file is made: all but these
 abbrev pub is_refusal : Outcome → Bool
 is_refusal outcome.Done = false
 is_refusal outcome.WriteFault = false
 is_refusal outcome.NoMemory = false
 is_refusal _ = true
 
--- outcomes that the bytes of an input decide
+-- outcomes that the bytes of an input decide: all but these
 abbrev pub is_of_bytes : Outcome → Bool
-is_of_bytes (outcome.Config fault) = true
-is_of_bytes outcome.NotBuilt = true
-is_of_bytes (outcome.TooManyStubs constraint side total) = true
-is_of_bytes _ = false
+is_of_bytes outcome.Done = false
+is_of_bytes outcome.Usage = false
+is_of_bytes outcome.ReadFault = false
+is_of_bytes outcome.InputTooLong = false
+is_of_bytes outcome.WriteFault = false
+is_of_bytes outcome.NoMemory = false
+is_of_bytes _ = true
 
--- outcomes of an input from which no text is made
+-- what is decided of an input: a work, or an outcome of its bytes
+abbrev pub is_decision : Result Work Outcome → Bool
+is_decision (Ok work) = true
+is_decision (Err outcome) = is_of_bytes outcome
+
+-- outcomes that can come while an input is decided that was read: all but these
+abbrev pub is_of_deciding : Outcome → Bool
+is_of_deciding outcome.Done = false
+is_of_deciding outcome.Usage = false
+is_of_deciding outcome.ReadFault = false
+is_of_deciding outcome.InputTooLong = false
+is_of_deciding outcome.WriteFault = false
+is_of_deciding _ = true
+
+-- outcomes that can come before a work is decided: all but these
 abbrev pub is_of_input : Outcome → Bool
 is_of_input outcome.Done = false
 is_of_input outcome.Usage = false
 is_of_input outcome.WriteFault = false
 is_of_input _ = true
+
+-- outcomes that can come while files are made
+abbrev pub is_of_writing : Outcome → Bool
+is_of_writing outcome.WriteFault = true
+is_of_writing outcome.NoMemory = true
+is_of_writing _ = false
+
+-- the outcome of a value that breaks a rule, by its number, at an index
+abbrev pub broken_outcome : ℕ × ℕ → Outcome
+broken_outcome (rule, index) = outcome.Config (fault.Broken rule index)
 
 -- the outcome where an input could not be read whole
 abbrev pub read_outcome : ReadError → Outcome

@@ -1,70 +1,56 @@
--- What a run leaves in a folder. An input is the list of the bytes that a source has left, where it tells
+-- What a run decides, and what it leaves in a folder. `left` are the bytes that a source has left, where it tells
 -- them, and files are those of a folder, where it tells them.
---   IsReadWhole left left_after          the input was read to its end, and is within the limit
---   GainsFiles words input old new       the folder has gained just the files that the words ask for
---   GainsPart words input old new        the folder has gained a part of these files
---   IsRefused words input outcome        the words ask for a command that refuses the input so
---   GainsMeaning input old new           the bytes of the gained file mean the input's query
---   IsGraphText value seed text          the text is a graph that conforms to a configuration and a seed
---   GainsGraph seed input old new        the bytes of the gained file are such a text
-use Rattle.std.specs.Prelude.{◌≡◌, ◌≤◌, ℕ, List, [], ◌∷◌, ◌++◌, length, Option, IfSome}
+--   IsReadWhole left left_after         the input was read to its end, and is within the limit
+--   IsTooLong left                      more bytes are left than an input may have
+--   IsDecided words left decision       this is what the command that the words ask for decides of its input
+--   GainsFiles words left old new       the folder has gained just the files of the decided work
+--   GainsPart words left old new        the folder has gained a part of these files
+--   GainsPartIfAny words left old new   the folder has gained such a part, or nothing
+--   GainsMeaning words left old new     the bytes of the files that the folder has gained mean what they are to mean
+--   AnswersInput words left answer      a run of the command that the words ask for ends so, where nothing fails
+use Rattle.std.specs.Prelude.{◌≡◌, ◌<◌, ◌≤◌, ◌⊎◌, ℕ, List, ◌++◌, length, Option, IfSome, Result, Ok}
 use Rattle.std.specs.Io.KnownBytes.{IsAtEnd}
 use Rattle.gm_io.specs.Limit.{input_limit}
-use Rattle.gm_io.specs.Source.{AreAllLeft}
-use Rattle.gm_io.specs.FileList.{FileList, Told, Gained, GainedPart}
-use Rattle.graph_text.specs.declared.graphs.Triple.{Triple}
-use Rattle.graph_text.specs.EdgesText.{IsReading}
-use Rattle.gm_config.specs.Config.{ConfigValue}
-use Rattle.edge_match.specs.ConformingGraph.{IsConforming}
-use Rattle.workload_text.specs.Plain.{IsPlain}
+use Rattle.gm_io.specs.FileList.{FileList, Told}
+use Rattle.gm_io.specs.Folder.{KeepsFiles}
 use Rattle.gm_top.specs.declared.commands.Command.{Command}
-use Rattle.gm_top.specs.declared.commands.Command.TheVariants.{Translate, Generate}
 use Rattle.gm_top.specs.declared.outcomes.Outcome.{Outcome}
-use Rattle.gm_top.specs.Command.{IsCommand, file_of}
-use Rattle.gm_top.specs.Input.{IsConfigText, DefinesFiles, Refuses}
-use Rattle.gm_top.specs.Rows.{MeansQuery}
+use Rattle.gm_top.specs.declared.work.Work.{Work}
+use Rattle.gm_top.specs.Command.{IsCommand, input_of}
+use Rattle.gm_top.specs.Decision.{Decides, IsAnswerTo}
+use Rattle.gm_top.specs.Outputs.{AreMeant, MakesFiles, MakesPart}
 
 pub record IsReadWhole (left left_after : Option (List ℕ)) : Type 0 where
   pub at_end : IsAtEnd left_after
   pub short : IfSome left (λ bytes. length bytes ≤ input_limit)
 
-pub record GainsFiles (words : List (List ℕ)) (input : Option (List ℕ)) (old new : Option FileList) : Type 0 where
+abbrev pub IsTooLong : Option (List ℕ) → Type 0
+IsTooLong left = IfSome left (λ bytes. input_limit < length bytes)
+
+pub record IsDecided (words : List (List ℕ)) (left : Option (List ℕ)) (decision : Result Work Outcome) : Type 0 where
   pub command : Command
   pub asked : IsCommand command words
-  pub bytes : List ℕ
-  pub told : AreAllLeft input bytes
-  pub files : FileList
-  pub defined : DefinesFiles command bytes files
-  pub gained : Gained old new files
+  pub decided : Decides command left decision
 
-pub record GainsPart (words : List (List ℕ)) (input : Option (List ℕ)) (old new : Option FileList) : Type 0 where
-  pub command : Command
-  pub asked : IsCommand command words
-  pub bytes : List ℕ
-  pub told : AreAllLeft input bytes
-  pub files : FileList
-  pub defined : DefinesFiles command bytes files
-  pub part : GainedPart old new files
+pub record GainsFiles (words : List (List ℕ)) (left : Option (List ℕ)) (old new : Option FileList) : Type 0 where
+  pub work : Work
+  pub decided : IsDecided words left (Ok work)
+  pub made : MakesFiles work old new
 
-pub record IsRefused (words : List (List ℕ)) (input : Option (List ℕ)) (answer : Outcome) : Type 0 where
-  pub command : Command
-  pub asked : IsCommand command words
-  pub bytes : List ℕ
-  pub told : AreAllLeft input bytes
-  pub refuses : Refuses command bytes answer
+pub record GainsPart (words : List (List ℕ)) (left : Option (List ℕ)) (old new : Option FileList) : Type 0 where
+  pub work : Work
+  pub decided : IsDecided words left (Ok work)
+  pub made : MakesPart work old new
 
--- the text that means the query is that of the file which the folder has now
-pub record GainsMeaning (input : Option (List ℕ)) (old new : Option FileList) : Type 0 where
-  pub label : List ℕ
-  pub plain : IfSome input (λ bytes. IsPlain bytes label)
-  pub read_back : Told old new (λ xs ys. (text : List ℕ) × (ys ≡ xs ++ (file_of Translate, text) ∷ []) × MeansQuery label text)
+abbrev pub GainsPartIfAny : List (List ℕ) → Option (List ℕ) → (old new : Option FileList) → Type 0
+GainsPartIfAny words left old new = KeepsFiles old new ⊎ GainsPart words left old new
 
--- a text is the lines of edges that conform to a configuration and a seed
-abbrev pub IsGraphText : ConfigValue → ℕ → List ℕ → Type 0
-IsGraphText value seed text = (edges : List Triple) × IsReading text edges × IsConforming value seed edges
+-- the files are those that the folder has gained, as it has them now
+pub record GainsMeaning (words : List (List ℕ)) (left : Option (List ℕ)) (old new : Option FileList) : Type 0 where
+  pub work : Work
+  pub decided : IsDecided words left (Ok work)
+  pub read_back : Told old new (λ xs ys. (files : FileList) × (ys ≡ xs ++ files) × AreMeant work files)
 
--- the text of the graph is that of the file which the folder has now
-pub record GainsGraph (seed : ℕ) (input : Option (List ℕ)) (old new : Option FileList) : Type 0 where
-  pub value : ConfigValue
-  pub read : IfSome input (λ bytes. IsConfigText bytes value)
-  pub read_back : Told old new (λ xs ys. (text : List ℕ) × (ys ≡ xs ++ (file_of (Generate seed), text) ∷ []) × IsGraphText value seed text)
+abbrev pub AnswersInput : List (List ℕ) → Option (List ℕ) → Outcome → Type 0
+AnswersInput words left answer = (command : Command) → IsCommand command words
+    → IfSome (input_of command left) (λ bytes. IsAnswerTo command bytes answer)

@@ -1,7 +1,7 @@
 //! The forms of the command line.
 
-ghost use Rattle.std.specs.Prelude.{◌≡◌, ◌↔◌, IsTrue, MatchOption, map, string_bytes, codes};
-ghost use Rattle.gm_top.specs.Command.{IsCommand, file_of};
+ghost use Rattle.std.specs.Prelude.{◌≡◌, ◌↔◌, IsTrue, MatchOption, string_bytes};
+ghost use Rattle.gm_top.specs.Command.{texts, IsCommand, AskForNone};
 
 use gm_text::{Decimal, read_decimal};
 
@@ -19,7 +19,7 @@ pub enum Command {
 
 /// The command that the words ask for, if they have one of the forms.
 pub(crate) fn command_of(words: &[String]) -> Option<Command>
-    ensures { MatchOption result ((command : Command) → ¬ IsCommand command (map string_bytes words.now)) (λ command. IsCommand command (map string_bytes words.now)) }
+    ensures { MatchOption result (AskForNone (texts words.now)) (λ command. IsCommand command (texts words.now)) }
 {
     match words {
         [word] if is_word(word, "translate") => Some(Command::Translate),
@@ -36,14 +36,4 @@ fn is_word(word: &String, text: &str) -> bool
     ensures { IsTrue result ↔ (string_bytes word.now ≡ text.now) }
 {
     word.as_str() == text
-}
-
-/// The name of the file that a command makes.
-pub(crate) fn file_of(command: Command) -> &'static str
-    ensures { result.now ≡ file_of command }
-{
-    match command {
-        Command::Translate => "query-0.sparql",
-        Command::Generate { .. } => "graph.txt",
-    }
 }

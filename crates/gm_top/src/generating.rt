@@ -1,42 +1,109 @@
-//! What `generate` makes of an input.
+//! `generate`: from a configuration to its graph.
 
-ghost use Rattle.std.specs.Prelude.{◌≡◌, ◌≢◌, [], ◌∷◌, List, All, Err, IfOk, IfErr, length};
-ghost use Rattle.graph_text.specs.declared.graphs.Triple.{Triple};
-ghost use Rattle.graph_text.specs.EdgesText.{IsReading};
-ghost use Rattle.edge_match.specs.AllEdges.{AreAllEdges};
-ghost use Rattle.edge_match.specs.Limit.{IsWithinLimit};
+ghost use Rattle.std.specs.Prelude.{◌≡◌, ◌≢◌, ◌<◌, ◌++◌, true, false, None, All, Err, length};
+ghost use Rattle.std.specs.Prelude.{IfErr, OnOk, OnErr, IsErrOf, IsTrue};
+ghost use Rattle.gm_io.specs.Count.{Rose, HasCause};
+ghost use Rattle.graph_text.specs.EdgesText.{IsInRange, edges_text};
+ghost use Rattle.gm_config.specs.Config.{IsConfig};
+ghost use Rattle.edge_match.specs.Limit.{first_side_over, IsWithinLimit};
 ghost use Rattle.gm_top.specs.declared.commands.Command.TheVariants.{Generate};
-ghost use Rattle.gm_top.specs.Command.{file_of};
-ghost use Rattle.gm_top.specs.Input.{DefinesFiles, Refuses};
+ghost use Rattle.gm_top.specs.declared.work.Work.TheVariants.{Graph};
+ghost use Rattle.gm_top.specs.Outcome.{is_of_deciding, is_of_writing};
+ghost use Rattle.gm_top.specs.Decision.{IsDecision};
+ghost use Rattle.gm_top.specs.Outputs.{MakesFiles, MakesPart};
+ghost use Rattle.gm_top.specs.Putting.{Puts, PutsPart, PutsEdges, PutsEdgesPart};
 
 use crate::outcomes::Outcome;
-use edge_match::{MatchError, first_over, match_edges};
+use crate::work::Work;
+use edge_match::{EdgeStream, first_over};
 use gm_config::{Config, read_config};
-use graph_text::write_edges;
-use std::alloc::{AllocError, Global};
+use gm_files::{Pieces, WriteFault};
+use gm_io::Folder;
+use graph_text::line_of;
+use std::alloc::Global;
 
-/// The text of the graph of a configuration. No side has too many stubs where there is one.
-pub(crate) fn generated(alloc: Global, seed: u64, bytes: &[u8]) -> Result<Vec<u8>, Outcome>
-    ensures text { IfOk result (λ text. DefinesFiles (Generate seed) bytes.now ((file_of (Generate seed), text.items) ∷ [])) }
-    ensures refused { IfErr result (λ outcome. outcome ≢ Outcome.NoMemory → Refuses (Generate seed) bytes.now outcome) }
+/// Decides what is to be done with a configuration. It makes no file.
+pub(crate) fn decided(alloc: Global, seed: u64, bytes: &[u8]) -> Result<Work, Outcome>
+    ensures decision { result ≢ Err Outcome.NoMemory → IsDecision (Generate seed) bytes.now result }
+    ensures stops { IfErr result (λ outcome. IsTrue (is_of_deciding outcome)) }
 {
     let config = read_config(alloc, bytes)?;
-    if let Some(over) = first_over(alloc, &config, seed)? {
-        return Err(Outcome::from(over));
+    match first_over(alloc, &config, seed)? {
+        Some(over) => Err(Outcome::from(over)),
+        None => Ok(Work::Graph { config, seed }),
     }
-    Ok(graph_text(alloc, &config, seed)?)
 }
 
-/// The lines of the edges of all constraints, one constraint after the other.
-fn graph_text(alloc: Global, config: &Config, seed: u64) -> Result<Vec<u8>, MatchError>
-    requires { IsWithinLimit config.now seed }
-    ensures text { IfOk result (λ text. (edges : List Triple) × AreAllEdges config.now seed edges × IsReading text.items edges) }
-    ensures memory { IfErr result (λ error. error ≡ MatchError.NoMemory) }
+/// Writes the file of the graph of a configuration.
+pub(crate) fn written<F: Folder>(
+    alloc: Global,
+    config: &Config,
+    seed: u64,
+    folder: &mut F,
+) -> Result<(), Outcome>
+    requires within { IsWithinLimit config.now seed }
+    requires finished { F.unfinished folder.old ≡ false }
+    ensures files { OnOk result (MakesFiles (Graph config.now seed) (F.files folder.old) (F.files folder.new)) }
+    ensures finished { OnOk result (F.unfinished folder.new ≡ false) }
+    ensures part { OnErr result (MakesPart (Graph config.now seed) (F.files folder.old) (F.files folder.new)) }
+    ensures stops { IfErr result (λ outcome. IsTrue (is_of_writing outcome)) }
+    ensures fault { IsErrOf result Outcome.WriteFault → Rose (F.faults folder.old) (F.faults folder.new) }
+    ensures faults { ¬ IsErrOf result Outcome.WriteFault → F.faults folder.new ≡ F.faults folder.old }
 {
-    let mut text = Vec::new(alloc);
-    for c in 0..config.constraint_count() {
-        let edges = match_edges(alloc, config, seed, c)?;
-        write_edges(&mut text, &edges)?;
+    let count = config.constraint_count();
+    let mut pieces = Pieces::new(alloc)?;
+    folder.create("graph.txt")?;
+    for c in 0..count {
+        put_edges(alloc, config, seed, c, &mut pieces, folder)?;
     }
-    Ok(text)
+    pieces.flush(folder)?;
+    folder.finish()?;
+    Ok(())
+}
+
+/// Puts the lines of the edges of a constraint into the last file.
+fn put_edges<F: Folder>(
+    alloc: Global,
+    config: &Config,
+    seed: u64,
+    c: u8,
+    pieces: &mut Pieces,
+    folder: &mut F,
+) -> Result<(), Outcome>
+    requires known { c < length config.now.constraints }
+    requires config { IsConfig config.now }
+    requires within { first_side_over config.now seed c ≡ None }
+    requires unfinished { F.unfinished folder.old ≡ true }
+    ensures put { OnOk result
+        (PutsEdges config.now seed c (F.files folder.old) (F.files folder.new) pieces.old pieces.new) }
+    ensures part { OnErr result
+        (PutsEdgesPart config.now seed c (F.files folder.old) (F.files folder.new) pieces.old) }
+    ensures unfinished { F.unfinished folder.new ≡ true }
+    ensures stops { IfErr result (λ outcome. IsTrue (is_of_writing outcome)) }
+    ensures fault { IsErrOf result Outcome.WriteFault → Rose (F.faults folder.old) (F.faults folder.new) }
+    ensures faults { ¬ IsErrOf result Outcome.WriteFault → F.faults folder.new ≡ F.faults folder.old }
+{
+    let edges = EdgeStream::new(alloc, config, seed, c)?;
+    put_lines(edges, pieces, folder)?;
+    Ok(())
+}
+
+/// Puts the lines of edges into the last file.
+fn put_lines<F: Folder>(
+    mut edges: EdgeStream,
+    pieces: &mut Pieces,
+    folder: &mut F,
+) -> Result<(), WriteFault>
+    requires in_range { All IsInRange edges }
+    requires unfinished { F.unfinished folder.old ≡ true }
+    ensures put { OnOk result
+        (Puts (F.files folder.old) (F.files folder.new) pieces.old pieces.new (edges_text edges)) }
+    ensures part { OnErr result (PutsPart (F.files folder.old) (F.files folder.new) (pieces.old ++ edges_text edges)) }
+    ensures unfinished { F.unfinished folder.new ≡ true }
+    ensures cause { HasCause (F.faults folder.old) (F.faults folder.new) result }
+{
+    while let Some(edge) = edges.next_edge() {
+        pieces.put(folder, line_of(edge).bytes())?;
+    }
+    Ok(())
 }

@@ -1,13 +1,17 @@
 //! The commands of `gmark`, from the words of a command line and the bytes of an input to files.
+//!
+//! [`run`] finds the command that the words ask for. Each command has a module with two functions: `decided` makes
+//! of the bytes of its input a refusal or the work that is to be done, and makes no file. `written` makes the files
+//! of that work, one after the other. [`laws`] has what is true of all commands and inputs.
 #![tactic(auto)]
 
 mod commands;
 mod generating;
+pub mod laws;
 mod outcomes;
-#[cfg(test)]
-mod tests;
 mod top;
 mod translating;
+mod work;
 
 pub use commands::Command;
 pub use outcomes::Outcome;

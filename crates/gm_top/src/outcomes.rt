@@ -4,8 +4,9 @@ ghost use Rattle.std.specs.Prelude.{◌≡◌, string_bytes, IfOk};
 ghost use Rattle.gm_top.specs.Outcome.{status_of, line_of, broken_line, stubs_line, side_word};
 
 use edge_match::{MatchError, Side, TooManyStubs};
-use gm_config::{Broken, ConfigError, ConfigFault};
-use gm_io::ReadError;
+use gm_config::{ConfigError, ConfigFault};
+use gm_files::WriteFault;
+use gm_io::{Failed, ReadError};
 use std::alloc::{AllocError, Global};
 
 /// How a run of the program ends.
@@ -71,7 +72,9 @@ impl Outcome {
                 alloc,
                 "gmark: configuration is not JSON",
             ),
-            Outcome::Config(ConfigFault::Broken(broken)) => broken_line(alloc, broken),
+            Outcome::Config(ConfigFault::Broken { rule, index }) => {
+                broken_line(alloc, rule, index)
+            }
             Outcome::ReadFault => String::from_str(alloc, "gmark: reading failed"),
             Outcome::WriteFault => String::from_str(alloc, "gmark: writing failed"),
             Outcome::NoMemory => String::from_str(alloc, "gmark: out of memory"),
@@ -86,11 +89,9 @@ impl Outcome {
 }
 
 /// The line of a configuration that breaks a rule.
-fn broken_line(alloc: Global, broken: Broken) -> Result<String, AllocError>
-    ensures { IfOk result (λ line. string_bytes line ≡ broken_line broken.rule broken.index) }
+fn broken_line(alloc: Global, rule: u8, index: u32) -> Result<String, AllocError>
+    ensures { IfOk result (λ line. string_bytes line ≡ broken_line rule index) }
 {
-    let rule = broken.rule;
-    let index = broken.index;
     format!(in alloc; "gmark: configuration breaks rule C{rule} at {index}")
 }
 
@@ -173,5 +174,25 @@ impl From<MatchError> for Outcome {
             MatchError::TooManyStubs(over) => Outcome::from(over),
             MatchError::NoMemory => Outcome::NoMemory,
         }
+    }
+}
+
+impl From<WriteFault> for Outcome {
+    ghost use Rattle.gm_top.specs.declared.outcomes.Outcome.TheVariants.{WriteFault};
+
+    ghost from_gives = { λ _ outcome. outcome ≡ WriteFault };
+
+    fn from(_: WriteFault) -> Self {
+        Outcome::WriteFault
+    }
+}
+
+impl From<Failed> for Outcome {
+    ghost use Rattle.gm_top.specs.declared.outcomes.Outcome.TheVariants.{WriteFault};
+
+    ghost from_gives = { λ _ outcome. outcome ≡ WriteFault };
+
+    fn from(_: Failed) -> Self {
+        Outcome::WriteFault
     }
 }

@@ -1,20 +1,18 @@
-ghost use Rattle.std.specs.Prelude.{◌≡◌, ◌≢◌, ℕ, ◌+◌, ◌<◌, ◌≤◌, ◌⊎◌, ◌↔◌, ◌∷◌, [], map, string_bytes, true, false, List, length, Some, IsTrue, IfOk, IfErr, OnOk, OnErr, IfSome, IsErrOf};
+ghost use Rattle.std.specs.Prelude.{◌≡◌, ◌≢◌, ◌+◌, ◌≤◌, ◌↔◌, false, Err, IsTrue, IfErr, OnOk, OnErr, IsErrOf};
 ghost use Rattle.gm_io.specs.Count.{raised, Rose};
 ghost use Rattle.gm_io.specs.Limit.{input_limit};
-ghost use Rattle.gm_io.specs.Source.{AreAllLeft};
-ghost use Rattle.gm_io.specs.Folder.{KeepsFiles};
-ghost use Rattle.gm_top.specs.declared.commands.Command.{Command};
-ghost use Rattle.gm_top.specs.declared.commands.Command.TheVariants.{Translate, Generate};
-ghost use Rattle.gm_top.specs.Command.{IsCommand, file_of};
-ghost use Rattle.gm_top.specs.Outcome.{is_after_reading, is_refusal, is_of_bytes, is_of_input};
-ghost use Rattle.gm_top.specs.Input.{DefinesFiles, Refuses, IsAnswerTo};
-ghost use Rattle.gm_top.specs.Run.{IsReadWhole, GainsFiles, GainsPart, IsRefused, GainsMeaning, GainsGraph};
+ghost use Rattle.gm_top.specs.Command.{texts, AskForNone};
+ghost use Rattle.gm_top.specs.Outcome.{is_after_reading, is_refusal, is_of_bytes};
+ghost use Rattle.gm_top.specs.Outcome.{is_decision, is_of_input, is_of_writing};
+ghost use Rattle.gm_top.specs.Decision.{Decides};
+ghost use Rattle.gm_top.specs.Outputs.{IsAccepted, MakesFiles, MakesPart};
+ghost use Rattle.gm_top.specs.Run.{IsReadWhole, IsTooLong, IsDecided, AnswersInput};
+ghost use Rattle.gm_top.specs.Run.{GainsFiles, GainsPart, GainsPartIfAny, GainsMeaning};
 
-use crate::commands::{Command, command_of, file_of};
-use crate::generating::generated;
+use crate::commands::{Command, command_of};
 use crate::outcomes::Outcome;
-use crate::translating::translated;
-use gm_files::{WriteFault, put_file};
+use crate::work::Work;
+use crate::{generating, translating};
 use gm_io::{Folder, Source, read_all};
 use std::alloc::Global;
 
@@ -32,27 +30,32 @@ pub fn run<S: Source, F: Folder>(
     requires { F.unfinished folder.old ≡ false }
 
     // The words. Where they ask for no command, nothing is read.
-    ensures usage { (result ≡ Outcome.Usage) ↔ ((command : Command) → ¬ IsCommand command (map string_bytes words.now)) }
+    ensures usage { (result ≡ Outcome.Usage) ↔ AskForNone (texts words.now) }
     ensures usage_reads_nothing { result ≡ Outcome.Usage → source.new ≡ source.old }
 
     // Reading. A byte past the limit is given exactly before `InputTooLong`.
     ensures read_fault { result ≡ Outcome.ReadFault → Rose (S.faults source.old) (S.faults source.new) }
-    ensures too_long { result ≡ Outcome.InputTooLong → raised (S.given source.old) (input_limit + 1) ≤ S.given source.new }
-    ensures too_long_told { result ≡ Outcome.InputTooLong → IfSome (S.left source.old) (λ bytes. input_limit < length bytes) }
-    ensures within { result ≢ Outcome.InputTooLong → result ≢ Outcome.NoMemory → S.given source.new ≤ raised (S.given source.old) input_limit }
+    ensures too_long { result ≡ Outcome.InputTooLong
+        → raised (S.given source.old) (input_limit + 1) ≤ S.given source.new }
+    ensures too_long_told { result ≡ Outcome.InputTooLong → IsTooLong (S.left source.old) }
+    ensures within { result ≢ Outcome.InputTooLong → result ≢ Outcome.NoMemory
+        → S.given source.new ≤ raised (S.given source.old) input_limit }
     ensures read_whole { IsTrue (is_after_reading result) → IsReadWhole (S.left source.old) (S.left source.new) }
 
     // What is refused of the input: `Config`, `NotBuilt` and `TooManyStubs`, each by its cause.
-    ensures refused { IsTrue (is_of_bytes result) → IsRefused (map string_bytes words.now) (S.left source.old) result }
+    ensures refused { IsTrue (is_of_bytes result) → IsDecided (texts words.now) (S.left source.old) (Err result) }
 
     // The files. After `Done` they are read back from the folder.
     ensures untouched { IsTrue (is_refusal result) → folder.new ≡ folder.old }
-    ensures done { result ≡ Outcome.Done → GainsFiles (map string_bytes words.now) (S.left source.old) (F.files folder.old) (F.files folder.new) }
-    ensures query_means { IsCommand Translate (map string_bytes words.now) → result ≡ Outcome.Done → GainsMeaning (S.left source.old) (F.files folder.old) (F.files folder.new) }
-    ensures graph_conforms { (seed : ℕ) → IsCommand (Generate seed) (map string_bytes words.now) → result ≡ Outcome.Done → GainsGraph seed (S.left source.old) (F.files folder.old) (F.files folder.new) }
+    ensures done { result ≡ Outcome.Done
+        → GainsFiles (texts words.now) (S.left source.old) (F.files folder.old) (F.files folder.new) }
+    ensures meaning { result ≡ Outcome.Done
+        → GainsMeaning (texts words.now) (S.left source.old) (F.files folder.old) (F.files folder.new) }
     ensures write_fault { result ≡ Outcome.WriteFault → Rose (F.faults folder.old) (F.faults folder.new) }
-    ensures write_fault_part { result ≡ Outcome.WriteFault → GainsPart (map string_bytes words.now) (S.left source.old) (F.files folder.old) (F.files folder.new) }
-    ensures no_memory_part { result ≡ Outcome.NoMemory → KeepsFiles (F.files folder.old) (F.files folder.new) ⊎ GainsPart (map string_bytes words.now) (S.left source.old) (F.files folder.old) (F.files folder.new) }
+    ensures write_fault_part { result ≡ Outcome.WriteFault
+        → GainsPart (texts words.now) (S.left source.old) (F.files folder.old) (F.files folder.new) }
+    ensures no_memory_part { result ≡ Outcome.NoMemory
+        → GainsPartIfAny (texts words.now) (S.left source.old) (F.files folder.old) (F.files folder.new) }
     ensures finished { result ≢ Outcome.WriteFault → result ≢ Outcome.NoMemory → F.unfinished folder.new ≡ false }
 
     // Only an answer that names a fault follows one.
@@ -60,39 +63,56 @@ pub fn run<S: Source, F: Folder>(
     ensures folder_faults { result ≢ Outcome.WriteFault → F.faults folder.new ≡ F.faults folder.old }
 
     // Where memory is there and nothing fails, the words and the bytes decide the answer.
-    ensures complete { (command : Command) → IsCommand command (map string_bytes words.now)
-        → ¬ Rose (S.faults source.old) (S.faults source.new) → ¬ Rose (F.faults folder.old) (F.faults folder.new) → result ≢ Outcome.NoMemory
-        → IfSome (S.left source.old) (λ bytes. IsAnswerTo command bytes result) }
+    ensures complete { ¬ Rose (S.faults source.old) (S.faults source.new)
+        → ¬ Rose (F.faults folder.old) (F.faults folder.new) → result ≢ Outcome.NoMemory
+        → AnswersInput (texts words.now) (S.left source.old) result }
 {
     let Some(command) = command_of(words) else {
         return Outcome::Usage;
     };
-    let text = match made(alloc, command, source) {
-        Ok(text) => text,
+    let work = match decided(alloc, command, source) {
+        Ok(work) => work,
         Err(outcome) => return outcome,
     };
-    match put_file(folder, file_of(command), &text) {
+    match written(alloc, &work, folder) {
         Ok(()) => Outcome::Done,
-        Err(WriteFault) => Outcome::WriteFault,
+        Err(outcome) => outcome,
     }
 }
 
-/// Reads an input and makes the text of the file that a command defines for it.
-fn made<S: Source>(alloc: Global, command: Command, source: &mut S) -> Result<Vec<u8>, Outcome>
-    ensures text { IfOk result (λ text. (bytes : List ℕ) × AreAllLeft (S.left source.old) bytes × DefinesFiles command bytes ((file_of command, text.items) ∷ [])) }
-    ensures refused { IfErr result (λ outcome. IsTrue (is_of_bytes outcome) → (bytes : List ℕ) × AreAllLeft (S.left source.old) bytes × Refuses command bytes outcome) }
+/// Reads the input of a command and decides what is to be done. It makes no file.
+fn decided<S: Source>(alloc: Global, command: Command, source: &mut S) -> Result<Work, Outcome>
+    ensures decision { IsTrue (is_decision result) → Decides command (S.left source.old) result }
     ensures of_input { IfErr result (λ outcome. IsTrue (is_of_input outcome)) }
     ensures read_fault { IsErrOf result Outcome.ReadFault → Rose (S.faults source.old) (S.faults source.new) }
-    ensures too_long { IsErrOf result Outcome.InputTooLong → raised (S.given source.old) (input_limit + 1) ≤ S.given source.new }
-    ensures too_long_told { IsErrOf result Outcome.InputTooLong → IfSome (S.left source.old) (λ bytes. input_limit < length bytes) }
-    ensures within { ¬ IsErrOf result Outcome.InputTooLong → ¬ IsErrOf result Outcome.NoMemory → S.given source.new ≤ raised (S.given source.old) input_limit }
-    ensures read_whole { OnOk result (IsReadWhole (S.left source.old) (S.left source.new)) }
-    ensures refused_whole { IfErr result (λ outcome. IsTrue (is_of_bytes outcome) → IsReadWhole (S.left source.old) (S.left source.new)) }
+    ensures too_long { IsErrOf result Outcome.InputTooLong
+        → raised (S.given source.old) (input_limit + 1) ≤ S.given source.new }
+    ensures too_long_told { IsErrOf result Outcome.InputTooLong → IsTooLong (S.left source.old) }
+    ensures within { ¬ IsErrOf result Outcome.InputTooLong → ¬ IsErrOf result Outcome.NoMemory
+        → S.given source.new ≤ raised (S.given source.old) input_limit }
+    ensures read_whole { IsTrue (is_decision result) → IsReadWhole (S.left source.old) (S.left source.new) }
     ensures faults { ¬ IsErrOf result Outcome.ReadFault → S.faults source.new ≡ S.faults source.old }
 {
     let bytes = read_all(alloc, source)?;
     match command {
-        Command::Translate => translated(alloc, &bytes),
-        Command::Generate { seed } => generated(alloc, seed, &bytes),
+        Command::Translate => translating::decided(alloc, &bytes),
+        Command::Generate { seed } => generating::decided(alloc, seed, &bytes),
+    }
+}
+
+/// Writes the files of a work.
+fn written<F: Folder>(alloc: Global, work: &Work, folder: &mut F) -> Result<(), Outcome>
+    requires accepted { IsAccepted work.now }
+    requires finished { F.unfinished folder.old ≡ false }
+    ensures files { OnOk result (MakesFiles work.now (F.files folder.old) (F.files folder.new)) }
+    ensures finished { OnOk result (F.unfinished folder.new ≡ false) }
+    ensures part { OnErr result (MakesPart work.now (F.files folder.old) (F.files folder.new)) }
+    ensures stops { IfErr result (λ outcome. IsTrue (is_of_writing outcome)) }
+    ensures fault { IsErrOf result Outcome.WriteFault → Rose (F.faults folder.old) (F.faults folder.new) }
+    ensures faults { ¬ IsErrOf result Outcome.WriteFault → F.faults folder.new ≡ F.faults folder.old }
+{
+    match work {
+        Work::Query(label) => translating::written(alloc, label, folder),
+        Work::Graph { config, seed } => generating::written(alloc, config, *seed, folder),
     }
 }

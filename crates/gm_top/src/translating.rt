@@ -1,24 +1,50 @@
-//! What `translate` makes of an input.
+//! `translate`: from a workload text to the texts of its queries.
 
-ghost use Rattle.std.specs.Prelude.{◌≡◌, ◌≢◌, [], ◌∷◌, IfOk, IfErr};
+ghost use Rattle.std.specs.Prelude.{◌≡◌, ◌≢◌, false, Err, IfOk, IfErr, OnOk, OnErr, IsErrOf, IsTrue};
+ghost use Rattle.gm_io.specs.Count.{Rose};
 ghost use Rattle.sparql_read.specs.Plain.{plain_sparql_text};
 ghost use Rattle.gm_top.specs.declared.commands.Command.TheVariants.{Translate};
-ghost use Rattle.gm_top.specs.Command.{file_of};
-ghost use Rattle.gm_top.specs.Input.{DefinesFiles, Refuses};
+ghost use Rattle.gm_top.specs.declared.work.Work.TheVariants.{Query};
+ghost use Rattle.gm_top.specs.Outcome.{is_of_deciding, is_of_writing};
+ghost use Rattle.gm_top.specs.Decision.{IsDecision};
+ghost use Rattle.gm_top.specs.Outputs.{MakesFiles, MakesPart};
 
 use crate::outcomes::Outcome;
+use crate::work::Work;
+use gm_files::{QueryFile, put_file, query_name};
+use gm_io::Folder;
 use std::alloc::{AllocError, Global};
-use workload_text::read_plain;
+use workload_text::{PlainName, read_plain};
 
-/// The text of the query of an input of the plain form.
-pub(crate) fn translated(alloc: Global, bytes: &[u8]) -> Result<Vec<u8>, Outcome>
-    ensures text { IfOk result (λ text. DefinesFiles Translate bytes.now ((file_of Translate, text.items) ∷ [])) }
-    ensures refused { IfErr result (λ outcome. outcome ≢ Outcome.NoMemory → Refuses Translate bytes.now outcome) }
+/// Decides what is to be done with a workload text. It makes no file.
+pub(crate) fn decided(alloc: Global, bytes: &[u8]) -> Result<Work, Outcome>
+    ensures decision { result ≢ Err Outcome.NoMemory → IsDecision Translate bytes.now result }
+    ensures stops { IfErr result (λ outcome. IsTrue (is_of_deciding outcome)) }
 {
-    let Some(work) = read_plain(alloc, bytes)? else {
-        return Err(Outcome::NotBuilt);
-    };
-    Ok(plain_text(alloc, work.label.as_slice())?)
+    match read_plain(alloc, bytes)? {
+        Some(work) => Ok(Work::Query(work.label)),
+        None => Err(Outcome::NotBuilt),
+    }
+}
+
+/// Writes the file of the query for the edges of a label.
+pub(crate) fn written<F: Folder>(
+    alloc: Global,
+    label: &PlainName,
+    folder: &mut F,
+) -> Result<(), Outcome>
+    requires { F.unfinished folder.old ≡ false }
+    ensures files { OnOk result (MakesFiles (Query label.now) (F.files folder.old) (F.files folder.new)) }
+    ensures finished { OnOk result (F.unfinished folder.new ≡ false) }
+    ensures part { OnErr result (MakesPart (Query label.now) (F.files folder.old) (F.files folder.new)) }
+    ensures stops { IfErr result (λ outcome. IsTrue (is_of_writing outcome)) }
+    ensures fault { IsErrOf result Outcome.WriteFault → Rose (F.faults folder.old) (F.faults folder.new) }
+    ensures faults { ¬ IsErrOf result Outcome.WriteFault → F.faults folder.new ≡ F.faults folder.old }
+{
+    let text = plain_text(alloc, label.as_slice())?;
+    let name = query_name(alloc, 0, QueryFile::Sparql)?;
+    put_file(folder, &name, &text)?;
+    Ok(())
 }
 
 /// The SPARQL text of the query that asks for the ends of each edge of a label.

@@ -1,0 +1,192 @@
+-- What a command decides of its input, from what the parts of the work answer.
+use Rattle.std.proofs.Common.{◌≡◌, ◌≢◌, ◌∙◌, ◌<◌, ◌≤◌, ◌+◌, ℕ, zero, suc, List, ◌∷◌, length, map, refl, ap, sym, subst, inl, inr, Option, Some, None, Result, Ok, Err, IfSome, IsTrue, IsErrAnd, false, arith}
+use Rattle.std.specs.Prelude.{option_map}
+use Rattle.std.specs.List.{range_with_len}
+use Rattle.std.specs.Io.KnownBytes.{IsAtEnd}
+use Rattle.std.proofs.lemmas.Bool.{cases_lt}
+use Rattle.serde_json.specs.Data.{Data}
+use Rattle.gm_io.specs.Limit.{input_limit}
+use Rattle.gm_io.specs.Source.{AreAllLeft}
+use Rattle.gm_config.specs.Config.{ConfigValue}
+use Rattle.gm_config.specs.Reading.{config_of, IsTextOf, BreaksFirst, HasNoReading}
+use Rattle.gm_config.specs.Rule.{first_broken}
+use Rattle.gm_config.specs.Rules.{rules}
+use Rattle.gm_config.specs.declared.errors.ConfigError.{ConfigError}
+use Rattle.gm_config.specs.declared.errors.ConfigError.TheVariants as config
+use Rattle.gm_config.specs.declared.errors.ConfigFault.TheVariants as fault
+use Rattle.gm_config.proofs.ConfigLemmas.{IsConfig-first_broken}
+use Rattle.edge_match.specs.declared.errors.TooManyStubs.{TooManyStubs}
+use Rattle.edge_match.specs.Limit.{IsWithinLimit, IsFirstOver}
+use Rattle.workload_text.specs.Plain.{IsPlain}
+use Rattle.gm_top.specs.declared.commands.Command.{Command}
+use Rattle.gm_top.specs.declared.commands.Command.TheVariants.{Translate, Generate}
+use Rattle.gm_top.specs.declared.outcomes.Outcome.{Outcome}
+use Rattle.gm_top.specs.declared.outcomes.Outcome.TheVariants as outcome
+use Rattle.gm_top.specs.declared.work.Work.{Work}
+use Rattle.gm_top.specs.declared.work.Work.TheVariants.{Query, Graph}
+use Rattle.gm_top.specs.Command.{input_of}
+use Rattle.gm_top.specs.Outcome.{config_outcome, broken_outcome, stubs_outcome, is_decision}
+use Rattle.gm_top.specs.Decision.{first_refusal, config_refusal, side_refusal, graph_decision, IsDecision, Decides}
+use Rattle.gm_top.specs.Outputs.{IsAccepted}
+use Rattle.gm_top.specs.Run.{IsReadWhole}
+
+-- ---- the first of some refusals
+
+skip : (o : Option Outcome) (refusals : List (Option Outcome)) (work : Work) → o ≡ None → first_refusal (o ∷ refusals) work ≡ first_refusal refusals work
+skip None refusals work none = refl
+skip (Some refusal) refusals work none = absurd (cc)
+
+stop : (o : Option Outcome) (refusals : List (Option Outcome)) (work : Work) (refusal : Outcome) → o ≡ Some refusal → first_refusal (o ∷ refusals) work ≡ Err refusal
+stop None refusals work refusal is = absurd (cc)
+stop (Some other) refusals work refusal is = cc
+
+passed : (o : Option Outcome) (refusals : List (Option Outcome)) (work done : Work) → first_refusal (o ∷ refusals) work ≡ Ok done
+    → (o ≡ None) × (first_refusal refusals work ≡ Ok done)
+passed None refusals work done is = (refl, is)
+passed (Some refusal) refusals work done is = absurd (cc)
+
+none_refused : (test : ℕ → Option Outcome) (work : Work) (a n : ℕ) → ((c : ℕ) → a ≤ c → c < a + n → test c ≡ None)
+    → first_refusal (map test (range_with_len a n)) work ≡ Ok work
+none_refused test work a zero none = refl
+none_refused test work a (suc n) none =
+    skip (test a) (map test (range_with_len (a + 1) n)) work (none a (omega arith) (omega arith))
+    ∙ none_refused test work (a + 1) n (λ c le lt. none c (omega arith) (omega arith))
+
+first_refused : (test : ℕ → Option Outcome) (work : Work) (refusal : Outcome) (a n c : ℕ) → a ≤ c → c < a + n → test c ≡ Some refusal
+    → ((b : ℕ) → a ≤ b → b < c → test b ≡ None) → first_refusal (map test (range_with_len a n)) work ≡ Err refusal
+first_refused test work refusal a zero c le lt here before = absurd (omega arith)
+first_refused test work refusal a (suc n) c le lt here before =
+    elim (cases_lt a c) [
+      | inl less ↦
+          skip (test a) (map test (range_with_len (a + 1) n)) work (before a (omega arith) less)
+          ∙ first_refused test work refusal (a + 1) n c (omega arith) (omega arith) here (λ b le' lt'. before b (omega arith) lt')
+      | inr same ↦
+          let at : a ≡ c = omega arith in
+          stop (test a) (map test (range_with_len (a + 1) n)) work refusal (ap test at ∙ here)
+    ]
+
+all_passed : (test : ℕ → Option Outcome) (work done : Work) (a n : ℕ) → first_refusal (map test (range_with_len a n)) work ≡ Ok done
+    → (done ≡ work) × ((c : ℕ) → a ≤ c → c < a + n → test c ≡ None)
+all_passed test work done a zero is = ((cc), λ c le lt. absurd (omega arith))
+all_passed test work done a (suc n) is =
+    let head = passed (test a) (map test (range_with_len (a + 1) n)) work done is in
+    let rest = all_passed test work done (a + 1) n head.1 in (
+      rest.0,
+      λ c le lt.
+          elim (cases_lt a c) [
+            | inl less ↦ rest.1 c (omega arith) (omega arith)
+            | inr same ↦ let at : c ≡ a = omega arith in ap test at ∙ head.0
+          ],
+    )
+
+unmapped : {A : Type 0} (f : A → Outcome) (o : Option A) → option_map f o ≡ None → o ≡ None
+unmapped f None none = refl
+unmapped f (Some x) none = absurd (cc)
+
+-- ---- a value that was read
+
+pub decides-graph : (seed : ℕ) (d : Data) → first_broken rules d ≡ None → IsWithinLimit (config_of d) seed
+    → graph_decision seed (Some d) ≡ Ok (Graph (config_of d) seed)
+unfolding graph_decision
+decides-graph seed d none within =
+    skip (config_refusal d) _ _ (ap (option_map broken_outcome) none)
+    ∙ none_refused (side_refusal (config_of d) seed) _ 0 _ (λ c le lt. ap (option_map stubs_outcome) (within c (omega arith)))
+
+decides-stubs : (seed : ℕ) (d : Data) (over : TooManyStubs) → first_broken rules d ≡ None → IsFirstOver (config_of d) seed over
+    → graph_decision seed (Some d) ≡ Err (stubs_outcome over)
+unfolding graph_decision
+decides-stubs seed d over none first =
+    skip (config_refusal d) _ _ (ap (option_map broken_outcome) none)
+    ∙ first_refused (side_refusal (config_of d) seed) _ _ 0 _ over.constraint (omega arith) (omega (arith, first.constraint)) (ap (option_map stubs_outcome) first.here)
+    (λ b le lt. ap (option_map stubs_outcome) (first.before b lt))
+
+decides-broken : (seed : ℕ) (d : Data) (first : ℕ × ℕ) → first_broken rules d ≡ Some first → graph_decision seed (Some d) ≡ Err (broken_outcome first)
+unfolding graph_decision
+decides-broken seed d first broken = stop (config_refusal d) _ _ _ (ap (option_map broken_outcome) broken)
+
+decided-graph : (seed : ℕ) (d : Data) (work : Work) → graph_decision seed (Some d) ≡ Ok work
+    → (first_broken rules d ≡ None) × IsWithinLimit (config_of d) seed × (work ≡ Graph (config_of d) seed)
+unfolding graph_decision
+decided-graph seed d work is =
+    let head = passed (config_refusal d) _ (Graph (config_of d) seed) work is in
+    let rest = all_passed (side_refusal (config_of d) seed) (Graph (config_of d) seed) work 0 _ head.1 in
+    (unmapped broken_outcome (first_broken rules d) head.0, (λ c lt. unmapped stubs_outcome _ (rest.1 c (omega arith) (omega arith))), rest.0)
+
+-- ---- what is decided of bytes
+
+pub IsDecision-graph : (seed : ℕ) (bytes : List ℕ) (value : ConfigValue) → IsTextOf bytes value → IsWithinLimit value seed
+    → IsDecision (Generate seed) bytes (Ok (Graph value seed))
+IsDecision-graph seed bytes value (d, reads, none, same) within = (
+  Some d,
+  reads,
+  ap (λ v. Ok (Graph v seed)) same ∙ sym (decides-graph seed d none (subst (λ (v : ConfigValue). IsWithinLimit v seed) same within)),
+)
+
+pub IsDecision-stubs : (seed : ℕ) (bytes : List ℕ) (value : ConfigValue) (over : TooManyStubs) (answer : Outcome) → IsTextOf bytes value
+    → IsFirstOver value seed over → answer ≡ stubs_outcome over → IsDecision (Generate seed) bytes (Err answer)
+IsDecision-stubs seed bytes value over answer (d, reads, none, same) first is = (
+  Some d,
+  reads,
+  ap (λ a. Err a) is ∙ sym (decides-stubs seed d over none (subst (λ (v : ConfigValue). IsFirstOver v seed over) same first)),
+)
+
+-- bytes of which no configuration was read
+pub IsDecision-unread : (result : Result Work Outcome) (seed : ℕ) (bytes : List ℕ) (read : Result ConfigValue ConfigError) (error : ConfigError)
+    → read ≡ Err error → IsErrAnd result (λ answer. answer ≡ config_outcome error)
+    → ((rule index : ℕ) → read ≡ Err (config.Fault (fault.Broken rule index)) → BreaksFirst bytes rule index)
+    → (read ≡ Err (config.Fault fault.NotJson) → HasNoReading bytes)
+    → result ≢ Err outcome.NoMemory → IsDecision (Generate seed) bytes result
+unfolding graph_decision
+IsDecision-unread (Ok work) seed bytes read error failed is broken none other = absurd is
+IsDecision-unread (Err answer) seed bytes read config.NoMemory failed is broken none other = absurd (other (ap (λ a. Err a) is))
+IsDecision-unread (Err answer) seed bytes read (config.Fault fault.NotJson) failed is broken none other = (None, none failed, not_json)
+  where
+    not_json : ◌≡◌ {A = Result Work Outcome} (Err answer) (graph_decision seed None)
+    not_json = ap (λ a. Err a) is
+IsDecision-unread (Err answer) seed bytes read (config.Fault (fault.Broken rule index)) failed is broken none other =
+    let found = broken rule index failed in
+    (Some found.0, found.1, ap (λ a. Err a) is ∙ sym (decides-broken seed found.0 (rule, index) found.2))
+
+pub IsDecision-memory : {P : Type 0} (result : Result Work Outcome) → IsErrAnd result (λ answer. answer ≡ outcome.NoMemory) → result ≢ Err outcome.NoMemory → P
+IsDecision-memory (Ok work) is other = absurd is
+IsDecision-memory (Err answer) is other = absurd (other (ap (λ a. Err a) is))
+
+pub IsDecision-plain : (bytes label : List ℕ) → IsPlain bytes label → IsDecision Translate bytes (Ok (Query label))
+IsDecision-plain bytes label plain = (Some label, plain, refl)
+
+pub IsDecision-not_plain : (bytes : List ℕ) → ((label : List ℕ) → IsPlain bytes label → ⊥) → IsDecision Translate bytes (Err outcome.NotBuilt)
+IsDecision-not_plain bytes none = (None, none, refl)
+
+-- a decided work is accepted
+pub IsAccepted-IsDecision : (command : Command) (bytes : List ℕ) (work : Work) → IsDecision command bytes (Ok work) → IsAccepted work
+unfolding graph_decision
+IsAccepted-IsDecision Translate bytes work (None, none, is) = absurd (cc)
+IsAccepted-IsDecision Translate bytes work (Some label, plain, is) = subst IsAccepted (query_of work label is) plain.1
+  where
+    query_of : (work : Work) (label : List ℕ) → ◌≡◌ {A = Result Work Outcome} (Ok work) (Ok (Query label)) → Query label ≡ work
+    query_of work label is = cc
+IsAccepted-IsDecision (Generate seed) bytes work (None, none, is) = absurd (not_ok work is)
+  where
+    not_ok : (work : Work) → Ok work ≡ graph_decision seed None → ⊥
+    not_ok work is = cc
+IsAccepted-IsDecision (Generate seed) bytes work (Some d, reads, is) =
+    let facts = decided-graph seed d work (sym is) in
+    subst IsAccepted (sym facts.2) (IsConfig-first_broken d facts.0, facts.1)
+
+-- what is decided of the bytes that were read is decided of the input
+pub decision-made : (command : Command) (left : Option (List ℕ)) (bytes : List ℕ) (result : Result Work Outcome) → AreAllLeft (input_of command left) bytes
+    → (result ≢ Err outcome.NoMemory → IsDecision command bytes result) → IsTrue (is_decision result)
+    → Decides command left result
+decision-made command left bytes result all told is = (bytes, all, told (λ same. not_memory result is same))
+  where
+    not_memory : (result : Result Work Outcome) → IsTrue (is_decision result) → result ≡ Err outcome.NoMemory → ⊥
+    not_memory result is same = let none : is_decision (Err outcome.NoMemory) ≡ false = refl in cc
+
+-- an input of which all was read
+pub IsReadWhole-read : (left left_after : Option (List ℕ)) (bytes : List ℕ) → IsAtEnd left_after → AreAllLeft left bytes → length bytes ≤ input_limit
+    → IsReadWhole left left_after
+IsReadWhole-read left left_after bytes at_end all short = record { at_end = at_end; short = within left all }
+  where
+    within : (left : Option (List ℕ)) → AreAllLeft left bytes → IfSome left (λ bytes. length bytes ≤ input_limit)
+    within None all = tt
+    within (Some xs) all = subst (λ (xs : List ℕ). length xs ≤ input_limit) all short

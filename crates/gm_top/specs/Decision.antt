@@ -1,0 +1,91 @@
+-- What a command decides of its input: a refusal, or the work that is to be done.
+--   IsLabelOf bytes label           the label of a text of the plain form, and none of any other text
+--   IsValueOf bytes value           the value of bytes that are JSON, and none of any other bytes
+--   first_refusal refusals work     the first of some refusals, or else the work
+--   query_decision label            what is decided of a text that reads so
+--   config_refusal d                how a value is refused that is no configuration
+--   side_refusal config seed c      how a constraint is refused that has too many stubs
+--   graph_decision seed value       what is decided of bytes that read so
+--   IsDecision command bytes d      what a command decides of the bytes that it is given
+--   Decides command left d          what it decides where a source has these bytes left
+--   outcome_of decision             how a run ends that decides so
+--   IsAnswerTo command bytes o      how a run ends that is given the bytes, where nothing fails
+use Rattle.std.specs.Prelude.{◌≡◌, ◌<◌, ◌≤◌, ℕ, List, [], ◌∷◌, length, map, Result, Ok, Err}
+use Rattle.std.specs.Prelude.{MatchOption, Option, Some, None, option_map}
+use Rattle.std.specs.List.{range_with_len}
+use Rattle.serde_json.specs.Data.{Data}
+use Rattle.gm_io.specs.Limit.{input_limit}
+use Rattle.gm_io.specs.Source.{AreAllLeft}
+use Rattle.gm_config.specs.Config.{ConfigValue}
+use Rattle.gm_config.specs.Reading.{Reads, config_of}
+use Rattle.gm_config.specs.Rule.{first_broken}
+use Rattle.gm_config.specs.Rules.{rules}
+use Rattle.gm_config.specs.declared.errors.ConfigFault.TheVariants as fault
+use Rattle.edge_match.specs.Limit.{first_side_over}
+use Rattle.workload_text.specs.Plain.{IsPlain}
+use Rattle.gm_top.specs.declared.commands.Command.{Command}
+use Rattle.gm_top.specs.declared.commands.Command.TheVariants.{Translate, Generate}
+use Rattle.gm_top.specs.declared.outcomes.Outcome.{Outcome}
+use Rattle.gm_top.specs.declared.outcomes.Outcome.TheVariants as outcome
+use Rattle.gm_top.specs.declared.work.Work.{Work}
+use Rattle.gm_top.specs.declared.work.Work.TheVariants.{Query, Graph}
+use Rattle.gm_top.specs.Command.{input_of}
+use Rattle.gm_top.specs.Outcome.{broken_outcome, stubs_outcome}
+
+-- the label of a text of the plain form, and none of any other text
+abbrev pub IsLabelOf : List ℕ → Option (List ℕ) → Type 0
+IsLabelOf bytes label = MatchOption label ((name : List ℕ) → ¬ IsPlain bytes name) (λ name. IsPlain bytes name)
+
+-- the value of bytes that are JSON, and none of any other bytes
+abbrev pub IsValueOf : List ℕ → Option Data → Type 0
+IsValueOf bytes value = MatchOption value ((d : Data) → ¬ Reads bytes d) (λ d. Reads bytes d)
+
+-- the first of some refusals, or else the work
+abbrev pub first_refusal : List (Option Outcome) → Work → Result Work Outcome
+first_refusal [] work = Ok work
+first_refusal (None ∷ refusals) work = first_refusal refusals work
+first_refusal (Some refusal ∷ refusals) work = Err refusal
+
+-- a text of the plain form asks for the text of its query
+abbrev pub query_decision : Option (List ℕ) → Result Work Outcome
+query_decision None = Err outcome.NotBuilt
+query_decision (Some label) = Ok (Query label)
+
+-- a value that is no configuration is refused with the first rule that it breaks
+abbrev pub config_refusal : Data → Option Outcome
+config_refusal d = option_map broken_outcome (first_broken rules d)
+
+-- a constraint is refused with the first of its sides that has too many stubs
+abbrev pub side_refusal : ConfigValue → (seed c : ℕ) → Option Outcome
+side_refusal config seed c = option_map stubs_outcome (first_side_over config seed c)
+
+-- a configuration none of whose constraints is refused asks for its graph
+unfoldable pub graph_decision : ℕ → Option Data → Result Work Outcome
+graph_decision seed None = Err (outcome.Config fault.NotJson)
+graph_decision seed (Some d) =
+    let config = config_of d in
+    let sides = map (side_refusal config seed) (range_with_len 0 (length config.constraints)) in
+    first_refusal (config_refusal d ∷ sides) (Graph config seed)
+
+-- what a command decides of the bytes that it is given
+abbrev pub IsDecision : Command → List ℕ → Result Work Outcome → Type 0
+IsDecision Translate bytes decision =
+    (label : Option (List ℕ)) × IsLabelOf bytes label × (decision ≡ query_decision label)
+IsDecision (Generate seed) bytes decision =
+    (value : Option Data) × IsValueOf bytes value × (decision ≡ graph_decision seed value)
+
+-- what a command decides where a source has these bytes left
+abbrev pub Decides : Command → Option (List ℕ) → Result Work Outcome → Type 0
+Decides command left decision =
+    (bytes : List ℕ) × AreAllLeft (input_of command left) bytes × IsDecision command bytes decision
+
+-- how a run ends that decides so, where nothing fails
+abbrev pub outcome_of : Result Work Outcome → Outcome
+outcome_of (Ok work) = outcome.Done
+outcome_of (Err refusal) = refusal
+
+-- how a run ends that is given the bytes, where nothing fails
+pub record IsAnswerTo (command : Command) (bytes : List ℕ) (answer : Outcome) : Type 0 where
+  pub too_long : input_limit < length bytes → answer ≡ outcome.InputTooLong
+  pub decided : length bytes ≤ input_limit
+      → (decision : Result Work Outcome) → IsDecision command bytes decision → answer ≡ outcome_of decision

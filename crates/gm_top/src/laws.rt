@@ -1,0 +1,23 @@
+//! What is true of every command and every input: each is a function that does nothing, and ensures it.
+
+ghost use Rattle.gm_top.specs.Laws.{EveryInputIsDecided, DecisionsAreOne, FilesAreOne, AcceptedInputsAskForGraphs};
+
+/// Every input is refused, or defines the files that a command makes of it.
+pub fn every_input_is_decided()
+    ensures { EveryInputIsDecided }
+{}
+
+/// Nothing else is decided of an input than what is decided of it: one refusal, or one work.
+pub fn decisions_are_one()
+    ensures { DecisionsAreOne }
+{}
+
+/// Equal inputs define equal files.
+pub fn files_are_one()
+    ensures { FilesAreOne }
+{}
+
+/// `generate` refuses no configuration that is accepted and none of whose sides has too many stubs.
+pub fn accepted_inputs_ask_for_graphs()
+    ensures { AcceptedInputsAskForGraphs }
+{}
