@@ -1,0 +1,120 @@
+use gm_text::*;
+use std::alloc::{AllocError, Global};
+use std::test::Fail;
+
+#[test]
+fn names(rt: HostRuntime) -> Result<(), Fail> {
+    let alloc = rt.alloc();
+    for (bytes, is) in [
+        (b"a_B9".as_slice(), true),
+        (b"abcdefghijklmnopqrstuvwxyz_12345", true),
+        (b"abcdefghijklmnopqrstuvwxyz_123456", false),
+        (b"", false),
+        (b"9a", false),
+        (b"_a", false),
+        (b"a-b", false),
+        (b"\xc3\xa9", false),
+    ] {
+        assert_eq!(rt; is_name(bytes), is);
+    }
+    let names: Names = Items::of(vec![in alloc;
+        Name::of(b"knows".to_vec(alloc)?),
+        Name::of(b"Person".to_vec(alloc)?),
+    ]?);
+    assert_eq!(rt; names.len(), 2);
+    assert_eq!(rt; names.at(1).as_slice(), b"Person".as_slice());
+    Ok(())
+}
+
+fn decimal_after(alloc: Global, before: &[u8], n: u64) -> Result<Vec<u8>, AllocError> {
+    let mut out = before.to_vec(alloc)?;
+    write_decimal(alloc, &mut out, n)?;
+    Ok(out)
+}
+
+#[test]
+fn written_decimals(rt: HostRuntime) -> Result<(), Fail> {
+    let alloc = rt.alloc();
+    for (n, text) in [
+        (0, b"n=0".as_slice()),
+        (10, b"n=10"),
+        (u64::MAX, b"n=18446744073709551615"),
+    ] {
+        assert_eq!(rt; decimal_after(alloc, b"n=", n)?.as_slice(), text);
+    }
+    Ok(())
+}
+
+#[test]
+fn read_decimals(rt: HostRuntime) {
+    for (word, read) in [
+        (b"0".as_slice(), Decimal::Value(0)),
+        (b"10", Decimal::Value(10)),
+        (b"18446744073709551615", Decimal::Value(u64::MAX)),
+        (b"18446744073709551616", Decimal::Big),
+        (b"99999999999999999999999", Decimal::Big),
+        (b"", Decimal::No),
+        (b"01", Decimal::No),
+        (b"00", Decimal::No),
+        (b"+1", Decimal::No),
+        (b"1a", Decimal::No),
+        (b" 1", Decimal::No),
+    ] {
+        assert_eq!(rt; read_decimal(word), read);
+    }
+}
+
+/// The lines of a text: `$` stands after each that is ended, and `!` after one that isn't.
+fn shown_lines(alloc: Global, text: &[u8]) -> Result<Vec<u8>, AllocError> {
+    let mut shown = Vec::new(alloc);
+    let mut scan = Scan::new(text);
+    for _ in 0..5 {
+        if let Some(line) = scan.next_line() {
+            shown.extend_from_slice(line.bytes)?;
+            shown.extend_from_slice(if line.ended { b"$" } else { b"!" })?;
+        }
+    }
+    Ok(shown)
+}
+
+#[test]
+fn lines(rt: HostRuntime) -> Result<(), Fail> {
+    for (text, shown) in [
+        (b"".as_slice(), b"".as_slice()),
+        (b"a", b"a!"),
+        (b"a\n", b"a$"),
+        (b"\n", b"$"),
+        (b"a\n\nb\r\nc", b"a$$b\r$c!"),
+    ] {
+        assert_eq!(rt; shown_lines(rt.alloc(), text)?.as_slice(), shown);
+    }
+    Ok(())
+}
+
+/// The words of a line, with `|` after each.
+fn shown_words(alloc: Global, line: &[u8]) -> Result<Vec<u8>, AllocError> {
+    let mut shown = Vec::new(alloc);
+    let mut words = Words::new(line);
+    for _ in 0..5 {
+        if let Some(word) = words.next_word() {
+            shown.extend_from_slice(word)?;
+            shown.extend_from_slice(b"|")?;
+        }
+    }
+    Ok(shown)
+}
+
+#[test]
+fn words(rt: HostRuntime) -> Result<(), Fail> {
+    for (line, shown) in [
+        (b"".as_slice(), b"|".as_slice()),
+        (b"label", b"label|"),
+        (b"edge 0 12", b"edge|0|12|"),
+        (b"a  b", b"a||b|"),
+        (b" a ", b"|a||"),
+        (b"a\tb", b"a\tb|"),
+    ] {
+        assert_eq!(rt; shown_words(rt.alloc(), line)?.as_slice(), shown);
+    }
+    Ok(())
+}

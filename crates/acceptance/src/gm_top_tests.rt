@@ -1,0 +1,365 @@
+use gm_io::{CountFolder, MemFolder, MemSource, SliceSource};
+use gm_top::{Outcome, run};
+use std::alloc::{AllocError, Global};
+use std::test::Fail;
+
+/// A workload text of the plain form.
+const KNOWS: &str =
+    "gmark-workload 1\nlabel knows\ntype person growing\nedge 0 0 0 =\nquery 0 chain linear linear\nrule x0 x1\nx0 0 x1\nend\n";
+
+/// The same with a label that is no name.
+const DASH: &str =
+    "gmark-workload 1\nlabel k-s\ntype person growing\nedge 0 0 0 =\nquery 0 chain linear linear\nrule x0 x1\nx0 0 x1\nend\n";
+
+/// One node with one edge to itself.
+const LOOP: &str =
+    r#"{"nodes":1,"types":[{"name":"t","count":1}],"labels":["p"],"constraints":[{"source":"t","label":"p","target":"t","out":{"kind":"uniform","min":1,"max":1},"in":{"kind":"uniform","min":1,"max":1}}],"workload":{"queries":0,"shapes":["chain"],"classes":["constant"],"star":0,"rules":[1,1],"conjuncts":[1,1],"disjuncts":[1,1],"length":[1,1]}}"#;
+
+/// The same without a node.
+const NO_NODES: &str =
+    r#"{"nodes":1,"types":[{"name":"t","count":0}],"labels":["p"],"constraints":[{"source":"t","label":"p","target":"t","out":{"kind":"uniform","min":1,"max":1},"in":{"kind":"uniform","min":1,"max":1}}],"workload":{"queries":0,"shapes":["chain"],"classes":["constant"],"star":0,"rules":[1,1],"conjuncts":[1,1],"disjuncts":[1,1],"length":[1,1]}}"#;
+
+/// The same with a free out side.
+const FREE_OUT: &str =
+    r#"{"nodes":1,"types":[{"name":"t","count":1}],"labels":["p"],"constraints":[{"source":"t","label":"p","target":"t","out":{"kind":"free"},"in":{"kind":"uniform","min":1,"max":1}}],"workload":{"queries":0,"shapes":["chain"],"classes":["constant"],"star":0,"rules":[1,1],"conjuncts":[1,1],"disjuncts":[1,1],"length":[1,1]}}"#;
+
+/// Four constraints between two nodes, one without an edge.
+const FOUR: &str =
+    r#"{"nodes":1,"types":[{"name":"a","count":1},{"name":"b","count":1}],"labels":["p","q"],"constraints":[{"source":"a","label":"p","target":"b","out":{"kind":"uniform","min":2,"max":2},"in":{"kind":"free"}},{"source":"b","label":"q","target":"a","out":{"kind":"free"},"in":{"kind":"uniform","min":1,"max":1}},{"source":"a","label":"p","target":"a","out":{"kind":"uniform","min":3,"max":3},"in":{"kind":"uniform","min":2,"max":2}},{"source":"b","label":"p","target":"b","out":{"kind":"uniform","min":0,"max":0},"in":{"kind":"uniform","min":1,"max":1}}],"workload":{"queries":0,"shapes":["chain"],"classes":["constant"],"star":0,"rules":[1,1],"conjuncts":[1,1],"disjuncts":[1,1],"length":[1,1]}}"#;
+
+/// Five million stubs on the out side.
+const MANY_OUT: &str =
+    r#"{"nodes":1,"types":[{"name":"a","count":1000},{"name":"b","count":1}],"labels":["p"],"constraints":[{"source":"a","label":"p","target":"b","out":{"kind":"uniform","min":5000,"max":5000},"in":{"kind":"uniform","min":1,"max":1}}],"workload":{"queries":0,"shapes":["chain"],"classes":["constant"],"star":0,"rules":[1,1],"conjuncts":[1,1],"disjuncts":[1,1],"length":[1,1]}}"#;
+
+/// Too many stubs on both sides of constraint 1.
+const MANY_BOTH: &str =
+    r#"{"nodes":1,"types":[{"name":"a","count":1000},{"name":"b","count":1000}],"labels":["p"],"constraints":[{"source":"b","label":"p","target":"b","out":{"kind":"uniform","min":1,"max":1},"in":{"kind":"uniform","min":1,"max":1}},{"source":"a","label":"p","target":"b","out":{"kind":"uniform","min":5000,"max":5000},"in":{"kind":"uniform","min":6000,"max":6000}}],"workload":{"queries":0,"shapes":["chain"],"classes":["constant"],"star":0,"rules":[1,1],"conjuncts":[1,1],"disjuncts":[1,1],"length":[1,1]}}"#;
+
+/// Too many stubs on the in side of constraint 0, and on the out side of constraint 1.
+const MANY_IN: &str =
+    r#"{"nodes":1,"types":[{"name":"a","count":1000},{"name":"b","count":1000}],"labels":["p"],"constraints":[{"source":"a","label":"p","target":"b","out":{"kind":"free"},"in":{"kind":"uniform","min":6000,"max":6000}},{"source":"a","label":"p","target":"a","out":{"kind":"uniform","min":5000,"max":5000},"in":{"kind":"free"}}],"workload":{"queries":0,"shapes":["chain"],"classes":["constant"],"star":0,"rules":[1,1],"conjuncts":[1,1],"disjuncts":[1,1],"length":[1,1]}}"#;
+
+/// Two types of one name, and too many stubs.
+const SAME_NAMES: &str =
+    r#"{"nodes":1,"types":[{"name":"u","count":1000},{"name":"v","count":1000},{"name":"u","share":2000}],"labels":["p"],"constraints":[{"source":"u","label":"p","target":"u","out":{"kind":"uniform","min":5000,"max":5000},"in":{"kind":"uniform","min":1,"max":1}}],"workload":{"queries":0,"shapes":["chain"],"classes":["constant"],"star":0,"rules":[1,1],"conjuncts":[1,1],"disjuncts":[1,1],"length":[1,1]}}"#;
+
+/// 20,000 nodes, each with one edge out and one edge in.
+const RING: &str =
+    r#"{"nodes":20000,"types":[{"name":"t","count":20000}],"labels":["p"],"constraints":[{"source":"t","label":"p","target":"t","out":{"kind":"uniform","min":1,"max":1},"in":{"kind":"uniform","min":1,"max":1}}],"workload":{"queries":0,"shapes":["chain"],"classes":["constant"],"star":0,"rules":[1,1],"conjuncts":[1,1],"disjuncts":[1,1],"length":[1,1]}}"#;
+
+/// The words of a line, one behind each space.
+fn command_line(alloc: Global, line: &str) -> Result<Vec<String>, AllocError> {
+    let mut words = Vec::new(alloc);
+    for word in line.split(' ') {
+        words.push(String::from_str(alloc, word)?)?;
+    }
+    Ok(words)
+}
+
+/// How a run ends, and the names and bytes of the files that it leaves, one behind the other.
+#[derive(Drop)]
+struct Left {
+    outcome: Outcome,
+    line: String,
+    files: Vec<u8>,
+}
+
+/// What a run on this command line and this input leaves, where the calls of the source and of the folder with
+/// these numbers fail, and a failed write keeps so many bytes.
+fn left_by(
+    alloc: Global,
+    line: &str,
+    text: &[u8],
+    read: u64,
+    call: u64,
+    keep: usize,
+) -> Result<Left, AllocError> {
+    let words = command_line(alloc, line)?;
+    let mut source = MemSource::new(text.to_vec(alloc)?, vec![in alloc; read]?);
+    let mut folder = MemFolder::new(alloc, vec![in alloc; call]?, keep, 2, 300_000)?;
+    let outcome = run(alloc, &words, &mut source, &mut folder);
+    let mut files = Vec::new(alloc);
+    for i in 0..folder.file_count() {
+        files.extend_from_slice(folder.name(i).as_bytes())?;
+        files.extend_from_slice(b": ")?;
+        files.extend_from_slice(folder.bytes(i))?;
+    }
+    Ok(Left {
+        outcome,
+        line: outcome.line(alloc)?,
+        files,
+    })
+}
+
+#[test]
+fn each_outcome_has_its_line_and_leaves_its_files(rt: HostRuntime) -> Result<(), Fail> {
+    let alloc = rt.alloc();
+    // The command line, the input, the failing calls of the source and of the folder, and what is left. No call is
+    // number 0.
+    for (words, text, read, call, status, line, files) in [
+        (
+            "translate",
+            KNOWS,
+            0,
+            0,
+            0,
+            "gmark: done",
+            "query-0.sparql: PREFIX : <http://gmark.example/>\nSELECT DISTINCT ?h0 ?h1 WHERE {\n{ ?h0 :knows ?h1 . }\n}\n",
+        ),
+        (
+            "generate 7",
+            LOOP,
+            0,
+            0,
+            0,
+            "gmark: done",
+            "graph.txt: 0 0 0\n",
+        ),
+        (
+            "generate 7",
+            NO_NODES,
+            0,
+            0,
+            0,
+            "gmark: done",
+            "graph.txt: ",
+        ),
+        (
+            "generate 7",
+            FREE_OUT,
+            0,
+            0,
+            0,
+            "gmark: done",
+            "graph.txt: 0 0 0\n",
+        ),
+        (
+            "generate 7",
+            FOUR,
+            0,
+            0,
+            0,
+            "gmark: done",
+            "graph.txt: 0 0 1\n0 0 1\n1 1 0\n0 0 0\n0 0 0\n",
+        ),
+        ("", LOOP, 0, 0, 2, "gmark: unknown command line", ""),
+        ("generate", LOOP, 0, 0, 2, "gmark: unknown command line", ""),
+        (
+            "generate 01",
+            LOOP,
+            0,
+            0,
+            2,
+            "gmark: unknown command line",
+            "",
+        ),
+        (
+            "generate 18446744073709551616",
+            LOOP,
+            0,
+            0,
+            2,
+            "gmark: unknown command line",
+            "",
+        ),
+        (
+            "generate 1 2",
+            LOOP,
+            0,
+            0,
+            2,
+            "gmark: unknown command line",
+            "",
+        ),
+        (
+            "translate 1",
+            KNOWS,
+            0,
+            0,
+            2,
+            "gmark: unknown command line",
+            "",
+        ),
+        ("sample 0", LOOP, 0, 0, 2, "gmark: unknown command line", ""),
+        (
+            "sample 101",
+            LOOP,
+            0,
+            0,
+            2,
+            "gmark: unknown command line",
+            "",
+        ),
+        (
+            "generate 7",
+            "{\"nodes\":",
+            0,
+            0,
+            3,
+            "gmark: configuration is not JSON",
+            "",
+        ),
+        (
+            "generate 7",
+            SAME_NAMES,
+            0,
+            0,
+            3,
+            "gmark: configuration breaks rule C6 at 2",
+            "",
+        ),
+        ("generate 7", LOOP, 1, 0, 4, "gmark: reading failed", ""),
+        ("generate 7", LOOP, 2, 0, 4, "gmark: reading failed", ""),
+        ("generate 7", LOOP, 0, 1, 5, "gmark: writing failed", ""),
+        (
+            "generate 7",
+            LOOP,
+            0,
+            2,
+            5,
+            "gmark: writing failed",
+            "graph.txt: 0 0 ",
+        ),
+        (
+            "generate 7",
+            LOOP,
+            0,
+            3,
+            5,
+            "gmark: writing failed",
+            "graph.txt: 0 0 0\n",
+        ),
+        (
+            "translate",
+            KNOWS,
+            0,
+            2,
+            5,
+            "gmark: writing failed",
+            "query-0.sparql: PREF",
+        ),
+        (
+            "generate 7",
+            MANY_OUT,
+            0,
+            0,
+            8,
+            "gmark: constraint 0 out: 5000000 stubs",
+            "",
+        ),
+        (
+            "generate 7",
+            MANY_BOTH,
+            0,
+            0,
+            8,
+            "gmark: constraint 1 out: 5000000 stubs",
+            "",
+        ),
+        (
+            "generate 7",
+            MANY_IN,
+            0,
+            0,
+            8,
+            "gmark: constraint 0 in: 6000000 stubs",
+            "",
+        ),
+        ("translate", "", 0, 0, 9, "gmark: form not built yet", ""),
+        ("translate", DASH, 0, 0, 9, "gmark: form not built yet", ""),
+    ] {
+        let left = left_by(alloc, words, text.as_bytes(), read, call, 4)?;
+        assert_eq!(rt;
+            (
+                left.outcome.status(),
+                left.line.as_str(),
+                left.files.as_slice()
+            ),
+            (status, line, files.as_bytes())
+        );
+    }
+    assert_eq!(rt;
+        Outcome::NoMemory.line(alloc)?.as_str(),
+        "gmark: out of memory"
+    );
+    Ok(())
+}
+
+/// How a run over a source and a folder that never fail ends, and the numbers of bytes and of calls that the folder
+/// was given.
+fn counted(alloc: Global, line: &str, text: &[u8]) -> Result<(Outcome, u64, u64), AllocError> {
+    let words = command_line(alloc, line)?;
+    let mut source = SliceSource::new(text);
+    let mut folder = CountFolder::new();
+    let outcome = run(alloc, &words, &mut source, &mut folder);
+    Ok((outcome, folder.bytes(), folder.calls()))
+}
+
+#[test]
+fn a_graph_is_written_in_pieces(rt: HostRuntime) -> Result<(), Fail> {
+    let alloc = rt.alloc();
+    for (line, text, bytes, calls) in [
+        ("generate 7", NO_NODES, 0, 2),
+        ("generate 7", LOOP, 6, 3),
+        ("generate 7", RING, 257_780, 6),
+        ("generate 18446744073709551615", RING, 257_780, 6),
+    ] {
+        assert_eq!(rt;
+            counted(alloc, line, text.as_bytes())?,
+            (Outcome::Done, bytes, calls)
+        );
+    }
+    Ok(())
+}
+
+#[test]
+fn a_failed_write_leaves_the_start_of_a_graph(rt: HostRuntime) -> Result<(), Fail> {
+    let alloc = rt.alloc();
+    let whole = left_by(alloc, "generate 7", RING.as_bytes(), 0, 0, 0)?.files;
+    // The failing call, the bytes of the failed piece that are kept, and the number of bytes that are left, of which
+    // 11 are the name and what stands before the file's own.
+    for (call, keep, bytes) in [
+        (2, 0, 11),
+        (2, 9, 20),
+        (4, 1, 131_084),
+        (5, 0, 196_619),
+        (5, 100_000, 257_791),
+        (6, 0, 257_791),
+    ] {
+        let left = left_by(alloc, "generate 7", RING.as_bytes(), 0, call, keep)?;
+        assert_eq!(rt;
+            (
+                left.outcome,
+                left.files.len(),
+                whole.starts_with(&left.files)
+            ),
+            (Outcome::WriteFault, bytes, true)
+        );
+    }
+    Ok(())
+}
+
+#[test]
+fn the_longest_input_is_read(rt: HostRuntime) -> Result<(), Fail> {
+    let alloc = rt.alloc();
+    for (count, line) in [
+        (16_777_216, "gmark: configuration is not JSON"),
+        (16_777_217, "gmark: input longer than 16777216 bytes"),
+    ] {
+        let text = vec![in alloc; b' '; count]?;
+        let (outcome, _, calls) = counted(alloc, "generate 1", &text)?;
+        assert_eq!(rt; (outcome.line(alloc)?.as_str(), calls), (line, 0));
+    }
+    Ok(())
+}
+
+#[test]
+fn no_words_ask_for_no_command(rt: HostRuntime) -> Result<(), Fail> {
+    let mut source = SliceSource::new(LOOP.as_bytes());
+    let mut folder = CountFolder::new();
+    assert_eq!(rt;
+        run(rt.alloc(), &[], &mut source, &mut folder),
+        Outcome::Usage
+    );
+    Ok(())
+}
