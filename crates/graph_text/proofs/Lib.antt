@@ -1,3 +1,5 @@
 pub mod BadLineLemmas
 pub mod EdgesTextLemmas
 pub mod PartLemmas
+pub mod MemberLemmas
+pub mod RowLemmas

@@ -1,3 +1,4 @@
 pub mod EdgesText
 pub mod Graph
 pub mod Pairs
+pub mod Rows
