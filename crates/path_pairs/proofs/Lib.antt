@@ -1,1 +1,4 @@
 pub mod TreeLemmas
+pub mod ListLemmas
+pub mod StarLemmas
+pub mod WordLemmas

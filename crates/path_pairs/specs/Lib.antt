@@ -1,2 +1,5 @@
 pub mod Trees
+pub mod Pairs
+pub mod Rounds
+pub mod Words
 pub mod Laws
