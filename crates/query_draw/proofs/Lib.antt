@@ -1,0 +1,4 @@
+pub mod DrawnLemmas
+pub mod WideLemmas
+pub mod LegLemmas
+pub mod RuleLemmas

@@ -1,0 +1,11 @@
+//! Drawn queries: each decision is the candidate that the random word at its address picks.
+//!
+//! A query is drawn of a configuration, a seed and its number. All that it asks for follows from these three.
+#![tactic(auto)]
+
+mod drawing;
+pub mod laws;
+mod legs;
+mod missing;
+
+pub use missing::{NoSuchQuery, first_missing};
