@@ -12,3 +12,4 @@ pub mod LayoutLemmas
 pub mod SpotLemmas
 pub mod ReaderLemmas
 pub mod QueryLemmas
+pub mod CountLemmas

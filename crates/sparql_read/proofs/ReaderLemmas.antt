@@ -1,12 +1,12 @@
 -- A text read token by token.
 use Rattle.std.proofs.Common.{◌≡◌, ◌≤◌, ◌<◌, ◌+◌, ◌&&◌, ℕ, Bool, true, false, if◌then◌else◌, Option, Some, None, List, [], ◌∷◌, ◌++◌, refl, sym, ap, subst, ◌∙◌, length, drop, get_or, arith, nat_le, Bor, MatchOption}
 use Rattle.std.specs.List.{list_all}
-use Rattle.std.proofs.lemmas.List.{append_assoc, append-nil, length-map}
+use Rattle.std.proofs.lemmas.List.{append_assoc, append-nil, length-map, length-append}
 use Rattle.token_text.specs.Tokens.{HasTokens, no_bytes, HasNoTokens}
 use Rattle.token_text.proofs.TokenLemmas.{Lexed, lex_start, tokens_are_one}
 use Rattle.sparql_read.specs.Tokens.{Token, Word, Mark, IriRef, Prefix, first}
 use Rattle.sparql_read.specs.Grammar.{Asked, heads_then, brace_then}
-use Rattle.sparql_read.specs.Layout.{Lists, flat, entries, all_nodes}
+use Rattle.sparql_read.specs.Layout.{Lists, laid_out, flat, entries, all_nodes}
 use Rattle.sparql_read.specs.Text.{has_mark, are_different, holds, IsSparql, HasNoReading}
 use Rattle.sparql_read.specs.TextMachine as spots
 use Rattle.sparql_read.specs.TextMachine.{part, step, go_on, run, checked}
@@ -16,6 +16,7 @@ use Rattle.sparql_read.specs.Reader.{head_mark, name_option, NoToken, HeadIs, No
 use Rattle.sparql_read.specs.declared.places.Parts.{Parts}
 use Rattle.sparql_read.specs.declared.places.Place.{Place}
 use Rattle.sparql_read.specs.declared.places.Place.TheVariants as places
+use Rattle.sparql_read.proofs.CountLemmas.{text_few}
 use Rattle.sparql_read.proofs.LayoutLemmas.{groups_within}
 use Rattle.sparql_read.proofs.ScanLemmas.{lexed_then}
 use Rattle.sparql_read.proofs.TextComplete.{text_runs, few_heads, checked_marked, and_both}
@@ -101,6 +102,7 @@ reading_start mark text l e at few zero = record {
   patterns = omega (arith, few, e);
   groups = omega (arith, few, e);
   first_within = omega (arith, zero);
+  tokens = omega (arith, e);
 }
 
 pub reading_room : (mark text rest all : List ℕ) (l : Parts) (place : Place) → Reading mark text all l place → length rest < length all → HasRoom l
@@ -125,6 +127,7 @@ reading_more mark text all rest l k place next t x lexed shorter marked steps gr
       patterns = omega (arith, x.patterns, shorter, grown.patterns);
       groups = omega (arith, x.groups, shorter, grown.groups);
       first_within = grown.first x.first_within;
+      tokens = omega (arith, x.tokens, shorter, length-append x.front (t ∷ []));
     }
 
 pub reading_unmarked : (mark text all rest : List ℕ) (l : Parts) (place : Place) (t : Token) → Reading mark text all l place
@@ -173,7 +176,7 @@ reading_end mark text all l place x end e =
       all_occur = r.is.all_occur;
       few_groups = omega (arith, x.groups);
       few_patterns = omega (arith, x.patterns);
-      few_paths = omega (arith, x.paths);
+      few_tokens = omega (arith, x.tokens);
     }
 
 pub reading_unended : (mark text all : List ℕ) (l : Parts) (place : Place) (x : Reading mark text all l place) → Lexed first all [] [] → EndIs false l x.spot
@@ -231,6 +234,11 @@ no_reading_holds text rest mark l h b bad q d =
     false_true : ◌≡◌ {A = Bool} false true → ⊥
     false_true e = cc
 
+-- a list of paths is no longer than the list of tokens
+few_paths : (v : Lists) (q : Asked) (t u w : Token) (ts : List Token) → v ≡ laid_out q → length (laid_out q).paths + 3 ≤ length (t ∷ u ∷ w ∷ ts)
+    → length ts ≤ 16777216 → length v.paths ≤ 16777216
+few_paths v q t u w ts e f g = subst (λ (x : Lists). length x.paths ≤ 16777216) (sym e) (omega (arith, f, g))
+
 pub reading_is : (text rest mark : List ℕ) (l : Parts) → HeadIs text mark rest → (b : BodyIs mark rest l) → holds b.asked ≡ true → PartsAsk text l
 reading_is text rest mark l h b good =
     let x = checked_says mark b.tokens b.asked spots.AtForm b.read in
@@ -250,7 +258,7 @@ reading_is text rest mark l h b good =
         variables = subst (λ (v : Lists). length v.variables ≤ 4) (sym b.lists) (few_heads b.asked good);
         groups = b.few_groups;
         patterns = rw length-map b.few_patterns;
-        paths = rw length-map b.few_paths;
+        paths = few_paths _ b.asked (Word Prefix) (Mark mark) (IriRef h.0) b.tokens b.lists (text_few _ mark b.asked (run_is_text mark h.0 b.tokens b.asked x.1)) b.few_tokens;
       };
     }
 

@@ -1,4 +1,5 @@
--- The grammar of SPARQL texts over their tokens. Each relation says that tokens begin with a part, and what is behind it.
+-- The grammar of SPARQL texts over their tokens. Each relation says that tokens begin with a part, and what is behind
+-- it.
 --   IsPath ts p rest       with the path p
 --   IsTriples ts ps rest   with triples, whose patterns are ps
 --   IsBody ts gs rest      with triples or groups, whose patterns are gs
@@ -33,7 +34,8 @@ mutual
   -- Elt = ["^"] Prim ["*" | "+" | "?"]
   pub data IsElt : List Token → Path → List Token → Type 0 where
     plain : {ts : List Token} {p : Path} {rest : List Token} → IsSigned ts p rest → IsElt ts p rest
-    inverse : {ts : List Token} {p : Path} {rest : List Token} → IsSigned ts p rest → IsElt (Caret ∷ ts) (Inverse p) rest
+    inverse : {ts : List Token} {p : Path} {rest : List Token} → IsSigned ts p rest
+        → IsElt (Caret ∷ ts) (Inverse p) rest
 
   -- Prim ["*" | "+" | "?"]
   pub data IsSigned : List Token → Path → List Token → Type 0 where
@@ -62,17 +64,20 @@ pub data IsTriple : List Token → Pattern → List Token → Type 0 where
 pub data IsTriples : List Token → List Pattern → List Token → Type 0 where
   one_triple : {ts rest : List Token} {p : Pattern} → IsTriple ts p rest → IsTriples ts (p ∷ []) rest
   dotted : {ts rest : List Token} {p : Pattern} → IsTriple ts p (Dot ∷ rest) → IsTriples ts (p ∷ []) rest
-  more_triples : {ts mid rest : List Token} {p : Pattern} {ps : List Pattern} → IsTriple ts p (Dot ∷ mid) → IsTriples mid ps rest
+  more_triples : {ts mid rest : List Token} {p : Pattern} {ps : List Pattern} → IsTriple ts p (Dot ∷ mid)
+      → IsTriples mid ps rest
       → IsTriples ts (p ∷ ps) rest
 
 -- Group = "{" Triples "}"
 pub data IsGroup : List Token → List Pattern → List Token → Type 0 where
-  group : {ts rest : List Token} {ps : List Pattern} → IsTriples ts ps (RightBrace ∷ rest) → IsGroup (LeftBrace ∷ ts) ps rest
+  group : {ts rest : List Token} {ps : List Pattern} → IsTriples ts ps (RightBrace ∷ rest)
+      → IsGroup (LeftBrace ∷ ts) ps rest
 
 -- Group { UNION Group }
 pub data IsGroups : List Token → List (List Pattern) → List Token → Type 0 where
   one_group : {ts rest : List Token} {ps : List Pattern} → IsGroup ts ps rest → IsGroups ts (ps ∷ []) rest
-  more_groups : {ts mid rest : List Token} {ps : List Pattern} {gs : List (List Pattern)} → IsGroup ts ps (Word Union ∷ mid) → IsGroups mid gs rest
+  more_groups : {ts mid rest : List Token} {ps : List Pattern} {gs : List (List Pattern)}
+      → IsGroup ts ps (Word Union ∷ mid) → IsGroups mid gs rest
       → IsGroups ts (ps ∷ gs) rest
 
 -- Body = Triples | Group { UNION Group }

@@ -1,4 +1,5 @@
--- What a text asks as lists: its paths numbered in the order in which they end, an inner path before the outer that ends with it.
+-- What a text asks as lists: its paths numbered in the order in which they end, an inner path before the outer that
+-- ends with it.
 --   laid_out asked    the lists of what a text asks
 use Rattle.std.specs.Prelude.{ℕ, List, [], ◌∷◌, ◌++◌, ◌+◌, length}
 use Rattle.gm_text.specs.declared.lists.Span.{Span}
@@ -49,7 +50,8 @@ all_nodes n (p ∷ ps) = nodes n p.path ++ all_nodes (number n p.path + 1) ps
 -- the patterns with the numbers of their paths
 abbrev pub entries : ℕ → List Pattern → List Entry
 entries n [] = []
-entries n (p ∷ ps) = record { subject = p.subject; path = number n p.path; object = p.object } ∷ entries (number n p.path + 1) ps
+entries n (p ∷ ps) =
+    record { subject = p.subject; path = number n p.path; object = p.object } ∷ entries (number n p.path + 1) ps
 
 -- the patterns of all groups
 abbrev pub flat : List (List Pattern) → List Pattern

@@ -1,5 +1,5 @@
 -- What the lists of a query stand for.
-use Rattle.std.specs.Prelude.{◌≤◌, ◌+◌, ⊤, ℕ, Bool, ◌||◌, List, [], ◌∷◌, length, map, bytes_eq}
+use Rattle.std.specs.Prelude.{◌≡◌, ◌≤◌, ◌+◌, ⊤, ℕ, Bool, ◌||◌, List, [], ◌∷◌, length, map, bytes_eq, Some, IfSome, slice_get}
 use Rattle.std.specs.List.{list_all, list_any}
 use Rattle.gm_text.specs.declared.lists.Span.{Span}
 use Rattle.sparql_read.specs.Layout.{Node, Entry, Lists}
@@ -40,10 +40,6 @@ abbrev pub lists_view : List (Bor (List ℕ)) → List Span → List Pattern →
 lists_view variables groups patterns paths =
     record { variables = texts variables; groups = groups; patterns = entries_view patterns; paths = nodes_view paths }
 
--- the most entries of a list of paths
-abbrev pub paths_most : ℕ
-paths_most = 50331648
-
 -- each group is within a list of so many patterns
 abbrev pub AreWithin : ℕ → List Span → Type 0
 AreWithin n [] = ⊤
@@ -55,14 +51,21 @@ pub record AreFew (lists : Lists) : Type 0 where
   pub within : AreWithin (length lists.patterns) lists.groups
   pub groups : length lists.groups ≤ 16777216
   pub patterns : length lists.patterns ≤ 16777216
-  pub paths : length lists.paths ≤ paths_most
+  pub paths : length lists.paths ≤ 16777216
+
+-- the pattern at a place of a group
+abbrev pub HasPattern : Lists → ℕ → ℕ → Entry → Type 0
+HasPattern lists g i entry =
+    IfSome (slice_get lists.groups g) (λ group. slice_get lists.patterns (group.first + i) ≡ Some entry)
 
 -- a variable is one of the pattern's two
 abbrev pub is_end_of_entry : List ℕ → Entry → Bool
 is_end_of_entry x e = bytes_eq x e.subject || bytes_eq x e.object
 
+-- a variable is in one of the patterns
 abbrev pub occurs_in_entries : List ℕ → List Entry → Bool
 occurs_in_entries x es = list_any (is_end_of_entry x) es
 
+-- each of the variables is
 abbrev pub entries_have_all : List (List ℕ) → List Entry → Bool
 entries_have_all xs es = list_all (λ x. occurs_in_entries x es) xs

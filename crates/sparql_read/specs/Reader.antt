@@ -20,6 +20,7 @@ abbrev pub head_mark : Token → Token → Token → Option (List ℕ)
 head_mark (Word Prefix) (Mark mark) (IriRef iri) = Some mark
 head_mark one two three = None
 
+-- the bytes of a name that may be missing
 abbrev pub name_option : Option (Bor (List ℕ)) → Option (List ℕ)
 name_option None = None
 name_option (Some name) = Some name.now
@@ -32,6 +33,7 @@ NoToken bytes = (t : Token) (us : List Token) → HasTokens first bytes (t ∷ u
 abbrev pub HeadIs : List ℕ → List ℕ → List ℕ → Type 0
 HeadIs bytes mark rest = (iri : List ℕ) × Lexed first bytes (Word Prefix ∷ Mark mark ∷ IriRef iri ∷ []) rest × (length rest ≤ length bytes)
 
+-- it does not
 abbrev pub NoHead : List ℕ → Type 0
 NoHead bytes = (mark iri : List ℕ) (us : List Token) → HasTokens first bytes (Word Prefix ∷ Mark mark ∷ IriRef iri ∷ us) → ⊥
 
@@ -39,6 +41,7 @@ NoHead bytes = (mark iri : List ℕ) (us : List Token) → HasTokens first bytes
 abbrev pub NoBody : List ℕ → List ℕ → Type 0
 NoBody mark bytes = (ts : List Token) (q : Asked) → HasTokens first bytes ts → checked mark ts spots.AtForm ≡ Some q → ⊥
 
+-- the lists as those of a query
 abbrev pub parts_view : Parts → Lists
 parts_view l = lists_view l.heads.items l.groups.items l.patterns.items l.paths.items
 
@@ -52,7 +55,7 @@ pub record BodyIs (mark bytes : List ℕ) (l : Parts) : Type 0 where
   pub all_occur : l.all_occur ≡ list_all (has_all asked.heads) asked.groups
   pub few_groups : length l.groups.items ≤ 16777216
   pub few_patterns : length l.patterns.items ≤ 16777216
-  pub few_paths : length l.paths.items ≤ 50331648
+  pub few_tokens : length tokens ≤ 16777216
 
 -- the lists hold what the text asks
 pub record PartsAsk (bytes : List ℕ) (l : Parts) : Type 0 where
@@ -77,3 +80,4 @@ pub record Reading (mark text rest : List ℕ) (l : Parts) (place : Place) : Typ
   pub patterns : length l.patterns.items + length rest ≤ 16777216
   pub groups : length l.groups.items + length rest ≤ 16777216
   pub first_within : l.first ≤ length l.patterns.items
+  pub tokens : length front + length rest ≤ 16777216

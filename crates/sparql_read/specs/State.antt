@@ -48,6 +48,7 @@ StackIs below above gs [] = (gs ≡ []) × (above ≡ below)
 StackIs below above gs (f ∷ fs) =
     (mid : List Node) × (hs : List Frame) × (h : Frame) × (gs ≡ hs ++ h ∷ []) × StackIs below mid hs fs × FrameIs mid above h f
 
+-- what comes next stands for this
 abbrev pub ModeIs : List Node → List Node → Mode → path.Mode → Type 0
 ModeIs below above modes.Want m = (m ≡ path.Want) × (above ≡ below)
 ModeIs below above (modes.Have id) m = (p : Path) × (m ≡ path.Have p) × Placed below above p id.0

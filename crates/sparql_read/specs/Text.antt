@@ -32,7 +32,8 @@ has_all xs ps = list_all (λ x. occurs_in x ps) xs
 
 -- at most four selected variables, which differ, and every group has each
 abbrev pub holds : Asked → Bool
-holds asked = nat_le (length asked.heads) heads_most && are_different asked.heads && list_all (has_all asked.heads) asked.groups
+holds asked =
+    nat_le (length asked.heads) heads_most && are_different asked.heads && list_all (has_all asked.heads) asked.groups
 
 -- a predicate has this mark
 abbrev pub has_mark : List ℕ → Token → Bool

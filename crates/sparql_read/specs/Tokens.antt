@@ -4,6 +4,7 @@ use Rattle.std.specs.Prelude.{ℕ, Bool, true, false, ◌||◌, ◌&&◌, ◌==�
 use Rattle.std.specs.Char.{is_ascii_alphabetic, to_ascii_lowercase}
 use Rattle.gm_text.specs.Name.{is_name_byte, name_most}
 
+-- the words of the language
 pub data Keyword : Type 0 where
   Prefix : Keyword
   Select : Keyword
@@ -117,6 +118,7 @@ abbrev pub iri_front : List ℕ → List ℕ → Front
 iri_front run [] = None
 iri_front run (b ∷ rest) = if b == 62 then Some (Some (IriRef run), rest) else None
 
+-- a keyword as a token
 abbrev pub keyword_token : Option Keyword → Option Token
 keyword_token None = None
 keyword_token (Some keyword) = Some (Word keyword)

@@ -16,6 +16,7 @@ use Rattle.sparql_read.specs.declared.lexer.Scanned.{Scanned}
 use Rattle.sparql_read.specs.declared.lexer.Scanned.TheVariants as scanned
 use denote.Ref.{Bor}
 
+-- a keyword
 abbrev pub keyword_view : Keyword → said.Keyword
 keyword_view words.Prefix = said.Prefix
 keyword_view words.Select = said.Select
@@ -24,6 +25,7 @@ keyword_view words.Ask = said.Ask
 keyword_view words.Where = said.Where
 keyword_view words.Union = said.Union
 
+-- a token, with the bytes of its names
 abbrev pub token_view : Token → said.Token
 token_view (tokens.Word keyword) = said.Word (keyword_view keyword)
 token_view (tokens.Mark mark) = said.Mark mark.now
@@ -42,14 +44,17 @@ token_view tokens.Asterisk = said.Asterisk
 token_view tokens.PlusSign = said.PlusSign
 token_view tokens.Question = said.Question
 
+-- a keyword that may be missing
 abbrev pub keyword_option : Option Keyword → Option said.Keyword
 keyword_option None = None
 keyword_option (Some keyword) = Some (keyword_view keyword)
 
+-- a token that may be missing
 abbrev pub token_option : Option Token → Option said.Token
 token_option None = None
 token_option (Some token) = Some (token_view token)
 
+-- a gap or a token, and the bytes behind it
 abbrev pub front_view : Option (Option Token × Bor (List ℕ)) → Front
 front_view None = None
 front_view (Some front) = Some (token_option front.0, front.1.now)
@@ -66,6 +71,7 @@ abbrev pub begins_with : Kind → List ℕ → Bool
 begins_with kind [] = false
 begins_with kind (b ∷ bs) = kind_test kind b
 
+-- bytes begin with a letter
 abbrev pub begins_with_letter : List ℕ → Bool
 begins_with_letter [] = false
 begins_with_letter (b ∷ bs) = is_ascii_alphabetic b

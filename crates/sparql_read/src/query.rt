@@ -1,7 +1,7 @@
 //! What a text of the SPARQL subset asks.
 
-ghost use Rattle.std.specs.Prelude.{◌≡◌, ◌<◌, ◌+◌, length, slice_get, Some, IfOk, IfSome};
-ghost use Rattle.sparql_read.specs.Query.{node_view, entry_view, AreFew};
+ghost use Rattle.std.specs.Prelude.{◌≡◌, ◌<◌, length, slice_get, Some, IfOk, IfSome};
+ghost use Rattle.sparql_read.specs.Query.{node_view, entry_view, AreFew, HasPattern};
 ghost use Rattle.sparql_read.specs.Reader.{parts_view};
 
 use crate::paths::{Path, PathId};
@@ -23,8 +23,8 @@ pub struct Pattern<'a> {
 
 /// What a text asks: the variables that it selects, its groups of patterns, and all paths.
 ///
-/// Each list is in the order of the text; the paths are in the order in which they end, and of two that end at one token
-/// the inner one comes first.
+/// Each list is in the order of the text; the paths are in the order in which they end, and of two that end at one
+/// token the inner one comes first.
 #[derive(Drop)]
 pub struct SparqlQuery<'a> {
     variables: &'a [&'a [u8]],
@@ -41,7 +41,7 @@ impl<'a> Model for SparqlQuery<'a> {
 
     ghost view = { λ query. lists_view query.variables.now query.groups.now query.patterns.now query.paths.now };
 
-    ghost invariant = { λ query. AreFew (lists_view query.variables.now query.groups.now query.patterns.now query.paths.now) };
+    ghost invariant = { λ q. AreFew (lists_view q.variables.now q.groups.now q.patterns.now q.paths.now) };
 }
 
 impl<'a> SparqlQuery<'a> {
@@ -85,7 +85,7 @@ impl<'a> SparqlQuery<'a> {
     pub fn pattern(&self, g: u32, i: u32) -> Pattern<'a>
         requires group { g < length self.now.groups }
         requires place { IfSome (slice_get self.now.groups g) (λ group. i < group.count) }
-        ensures { IfSome (slice_get self.now.groups g) (λ group. slice_get self.now.patterns (group.first + i) ≡ Some (entry_view result)) }
+        ensures { HasPattern self.now g i (entry_view result) }
     {
         let group = self.groups[g as usize];
         self.patterns[(group.first + i) as usize]
