@@ -1,0 +1,12 @@
+pub mod Tokens
+pub mod Grammar
+pub mod Conditions
+pub mod View
+pub mod Absent
+pub mod Kept
+pub mod Parsed
+pub mod Scope
+pub mod Text
+pub mod Checks
+pub mod Whole
+pub mod Passed
