@@ -13,3 +13,5 @@ pub mod SideLemmas
 pub mod StubLemmas
 pub mod TotalLemmas
 pub mod TypeLemmas
+pub mod OrderLemmas
+pub mod EdgeLemmas
