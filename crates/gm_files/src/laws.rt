@@ -8,7 +8,8 @@ pub fn pieces_add_up()
     ensures { (text bytes : List ℕ) → PiecesAddUp text bytes }
 {}
 
-/// A text that is put into a file and flushed is written whole, in as many pieces as by [`put_file`](crate::put_file).
+/// A text that is put into a file and flushed is written whole, in as many pieces as by [`put_file`](crate::put_file),
+/// each but the last of [`PIECE_MOST`](crate::PIECE_MOST) bytes.
 pub fn pieces_end()
     ensures { (text : List ℕ) → PiecesEnd text }
 {}

@@ -40,8 +40,8 @@ impl Pieces {
         Ok(Pieces { kept })
     }
 
-    /// Puts at most [`PIECE_MOST`] bytes after those that are kept. It makes a write where the folder is owed a full
-    /// piece, and only then.
+    /// Puts at most [`PIECE_MOST`] bytes after those that are kept. It makes one write, of a full piece, where the
+    /// folder is owed one, and none elsewhere.
     pub fn put<F: Folder>(&mut self, folder: &mut F, bytes: &[u8]) -> Result<(), WriteFault>
         requires unfinished { F.unfinished folder.old ≡ true }
         requires fits { length bytes.now ≤ piece_most }
@@ -49,6 +49,7 @@ impl Pieces {
         ensures files { Writes (F.files folder.old) (F.files folder.new) result (full_pieces (self.old ++ bytes.now)) }
         ensures kept { OnOk result (self.new ≡ last_piece (self.old ++ bytes.now)) }
         ensures calls { F.calls folder.new ≡ raised (F.calls folder.old) (full_count (length self.old + length bytes.now)) }
+        ensures at_most_one { full_count (length self.old + length bytes.now) ≤ 1 }
 
         ensures unfinished { F.unfinished folder.new ≡ true }
         ensures cause { HasCause (F.faults folder.old) (F.faults folder.new) result }
@@ -68,13 +69,14 @@ impl Pieces {
         Ok(())
     }
 
-    /// Writes the bytes that are kept, where there are any.
+    /// Writes the bytes that are kept, where there are any, in one piece.
     pub fn flush<F: Folder>(&mut self, folder: &mut F) -> Result<(), WriteFault>
         requires { F.unfinished folder.old ≡ true }
 
         ensures files { Writes (F.files folder.old) (F.files folder.new) result self.old }
         ensures kept { self.new ≡ [] }
         ensures calls { F.calls folder.new ≡ raised (F.calls folder.old) (pieces_of (length self.old)) }
+        ensures at_most_one { pieces_of (length self.old) ≤ 1 }
 
         ensures unfinished { F.unfinished folder.new ≡ true }
         ensures cause { HasCause (F.faults folder.old) (F.faults folder.new) result }
