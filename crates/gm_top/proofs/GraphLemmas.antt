@@ -1,8 +1,11 @@
 -- The file of a graph, and the parts of it that a run may leave.
 use Rattle.std.proofs.Common.{◌≡◌, ◌∙◌, ℕ, ◌+◌, ◌-◌, ◌<◌, ◌≤◌, List, [], ◌∷◌, ◌++◌, length, refl, ap, sym, subst, Option, Result, Ok, Err, OnErr, arith, append_assoc}
+use Rattle.std.proofs.lemmas.List.{length-append}
 use Rattle.std.proofs.lemmas.List.Elements.{All-append}
+use Rattle.gm_io.specs.Count.{raised}
 use Rattle.gm_io.specs.FileList.{FileList, Gained}
 use Rattle.gm_io.specs.Folder.{KeepsFiles}
+use Rattle.gm_files.specs.Calls.{pieces_of, file_calls}
 use Rattle.gm_files.proofs.Gains.{GainedPart-none, GainedPart-all}
 use Rattle.graph_text.specs.declared.graphs.Triple.{Triple}
 use Rattle.graph_text.specs.EdgesText.{IsInRange, IsReading, edges_text}
@@ -12,9 +15,9 @@ use Rattle.edge_match.specs.AllEdges.{AreEdgesBefore}
 use Rattle.edge_match.specs.Limit.{IsWithinLimit}
 use Rattle.edge_match.proofs.AllEdgesLemmas.{AreEdgesBefore-none, AreEdgesBefore-more}
 use Rattle.gm_top.specs.declared.work.Work.TheVariants.{Graph}
-use Rattle.gm_top.specs.Outputs.{graph, name_of, IsTextOf, MakesFiles, MakesPart}
+use Rattle.gm_top.specs.Outputs.{graph, name_of, IsTextOf, MakesFiles, MakesPart, TakesCalls, TakesCallsWithin}
 use Rattle.gm_top.specs.Putting.{PutsPart, AreLinesOf, AreLinesBefore}
-use Rattle.gm_top.proofs.EdgeLemmas.{AreEdgesBefore-next}
+use Rattle.edge_match.proofs.EdgeLemmas.{AreEdgesBefore-next}
 use Rattle.gm_top.proofs.PutLemmas.{GainedPart-PutsPart}
 
 -- the lines of more edges follow those before
@@ -45,6 +48,11 @@ module _ (config : ConfigValue) (seed : ℕ) where
   pub part-whole : (old new : Option FileList) → MakesFiles (Graph config seed) old new → MakesPart (Graph config seed) old new
   part-whole old new (files, are, gained) = (files, are, GainedPart-all old new files gained)
 
+  -- the calls for the file of the lines of all edges
+  pub calls-whole : (before now : ℕ) (text : List ℕ) → AreLinesBefore config seed (length config.constraints) text → now ≡ raised before (file_calls (length text))
+      → TakesCalls (Graph config seed) before now
+  calls-whole before now text lines is = (graph_file text, (refl, lines, tt), omega (arith, is))
+
   module _ (rules : IsConfig config) (within : IsWithinLimit config seed) where
     -- lines of some constraints begin the text of the graph
     later_lines : (c : ℕ) (text : List ℕ) → c ≤ length config.constraints → AreLinesBefore config seed c text
@@ -63,6 +71,16 @@ module _ (config : ConfigValue) (seed : ℕ) where
 
     pub IsTextOf-some : (text : List ℕ) × IsTextOf (graph config seed) text
     IsTextOf-some = later_lines 0 [] (omega arith) (AreLinesBefore-none config seed)
+
+    -- no more calls than for a file of the lines of some constraints
+    pub calls-part : (before now c : ℕ) (text : List ℕ) → c ≤ length config.constraints → AreLinesBefore config seed c text → now ≤ raised before (file_calls (length text))
+        → TakesCallsWithin (Graph config seed) before now
+    calls-part before now c text known lines few =
+        let rest = later_lines c text known lines in
+        (graph_file (text ++ rest.0), (refl, rest.1, tt), omega (arith, few, length-append text rest.0))
+
+    pub calls-none : (before now : ℕ) → now ≤ raised before 1 → TakesCallsWithin (Graph config seed) before now
+    calls-none before now few = calls-part before now 0 [] (omega arith) (AreLinesBefore-none config seed) (omega (arith, few))
 
     pub part-none : (old new : Option FileList) → KeepsFiles old new → MakesPart (Graph config seed) old new
     part-none old new kept =

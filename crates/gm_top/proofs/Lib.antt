@@ -1,7 +1,5 @@
 pub mod CommandLemmas
 pub mod DecisionLemmas
-pub mod OrderLemmas
-pub mod EdgeLemmas
 pub mod PutLemmas
 pub mod GraphLemmas
 pub mod RowLemmas

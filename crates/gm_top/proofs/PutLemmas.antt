@@ -1,15 +1,17 @@
 -- What a file gains when a text is put into it part by part.
-use Rattle.std.proofs.Common.{◌≡◌, ◌∙◌, ℕ, List, [], ◌∷◌, ◌++◌, take, drop, Option, Some, None, refl, ap, sym, subst, append_assoc, append-nil, inr}
-use Rattle.std.proofs.lemmas.List.{take-append-drop}
+use Rattle.std.proofs.Common.{◌≡◌, ◌∙◌, ℕ, ◌+◌, ◌<◌, ◌≤◌, List, [], ◌∷◌, ◌++◌, length, take, drop, Option, Some, None, refl, ap, sym, subst, append_assoc, append-nil, inr, arith}
+use Rattle.std.proofs.lemmas.List.{take-append-drop, length-append}
+use Rattle.gm_io.specs.Count.{raised}
 use Rattle.gm_io.specs.FileList.{FileList, Told, with_piece, Gained, GainedPart}
+use Rattle.gm_files.specs.Calls.{piece_most, full_count}
 use Rattle.gm_files.specs.Pieces.{full_pieces, last_piece}
 use Rattle.gm_files.proofs.Gains.{with_piece-append, Gained-write}
-use Rattle.gm_files.proofs.PieceLemmas.{full_pieces-last_piece}
+use Rattle.gm_files.proofs.PieceLemmas.{full_pieces-last_piece, length-last_piece}
 use Rattle.graph_text.specs.declared.graphs.Triple.{Triple}
 use Rattle.graph_text.specs.EdgesText.{edge_line, edges_text}
 use Rattle.graph_text.proofs.EdgesTextLemmas.{edges_text-append}
 use Rattle.gm_io.specs.Folder.{KeepsFiles}
-use Rattle.gm_top.specs.Putting.{Puts, PutsPart}
+use Rattle.gm_top.specs.Putting.{Puts, PutsPart, CallsToPut}
 
 -- two pieces, one after the other, are one
 with_piece-more : (files : FileList) (first second : List ℕ) → with_piece (with_piece files first) second ≡ with_piece files (first ++ second)
@@ -98,15 +100,17 @@ PutsPart-write None new kept wrote = tt
 PutsPart-write (Some xs) None kept wrote = wrote
 PutsPart-write (Some xs) (Some ys) kept wrote = (take wrote.0 kept, (drop wrote.0 kept, sym (take-append-drop wrote.0 kept)), wrote.1)
 
+-- the lines of some edges, and of one more
+lines-edge : (done : List Triple) (edge : Triple) (bytes : List ℕ) → bytes ≡ edge_line edge → edges_text done ++ bytes ≡ edges_text (done ++ edge ∷ [])
+lines-edge done edge bytes is =
+    ap (λ (text : List ℕ). edges_text done ++ text) (is ∙ sym (append-nil (edge_line edge))) ∙ sym (edges_text-append done (edge ∷ []))
+
 -- one more line was put
 pub Puts-edge : (old mid new : Option FileList) (before between after bytes : List ℕ) (done : List Triple) (edge : Triple) → Puts old mid before between (edges_text done)
     → bytes ≡ edge_line edge → Told mid new (λ xs ys. ys ≡ with_piece xs (full_pieces (between ++ bytes))) → after ≡ last_piece (between ++ bytes)
     → Puts old new before after (edges_text (done ++ edge ∷ []))
 Puts-edge old mid new before between after bytes done edge put is wrote kept =
-    let line : bytes ≡ edges_text (edge ∷ []) = is ∙ sym (append-nil (edge_line edge)) in
-    let lines : edges_text done ++ bytes ≡ edges_text (done ++ edge ∷ []) =
-    ap (λ (text : List ℕ). edges_text done ++ text) line ∙ sym (edges_text-append done (edge ∷ [])) in
-    subst (λ (text : List ℕ). Puts old new before after text) lines (Puts-more old mid new before between after (edges_text done) bytes put wrote kept)
+    subst (λ (text : List ℕ). Puts old new before after text) (lines-edge done edge bytes is) (Puts-more old mid new before between after (edges_text done) bytes put wrote kept)
 
 -- one more line was put, and a write of it failed
 pub PutsPart-edge : (old mid new : Option FileList) (before between bytes : List ℕ) (all done rest : List Triple) (edge : Triple) → Puts old mid before between (edges_text done)
@@ -120,6 +124,37 @@ PutsPart-edge old mid new before between bytes all done rest edge put is wrote s
     ∙ sym (append_assoc (edges_text done) bytes (edges_text rest)) in
     PutsPart-more old mid new before between (edges_text done) bytes (before ++ edges_text all) (edges_text rest) put wrote
     (ap (λ (text : List ℕ). before ++ text) lines ∙ sym (append_assoc before (edges_text done ++ bytes) (edges_text rest)))
+
+-- ---- the calls of the folder
+
+pub CallsToPut-none : (calls : ℕ) (kept : List ℕ) → length kept < piece_most → CallsToPut calls calls kept kept []
+CallsToPut-none calls kept short = record { each_piece = omega (arith, short); kept = omega (arith, short) }
+
+-- one more text was put
+pub CallsToPut-more : (c d e : ℕ) (before between after text more all : List ℕ) → CallsToPut c d before between text → CallsToPut d e between after more
+    → all ≡ text ++ more → CallsToPut c e before after all
+CallsToPut-more c d e before between after text more all first second same = record {
+  each_piece = omega (arith, first.each_piece, first.kept, second.each_piece, ap length same, length-append text more);
+  kept = omega (arith, first.kept, second.kept, ap length same, length-append text more);
+}
+
+-- one more line was put
+pub CallsToPut-edge : (c d e : ℕ) (before between after bytes : List ℕ) (done : List Triple) (edge : Triple) → CallsToPut c d before between (edges_text done)
+    → bytes ≡ edge_line edge → e ≡ raised d (full_count (length between + length bytes)) → after ≡ last_piece (between ++ bytes)
+    → CallsToPut c e before after (edges_text (done ++ edge ∷ []))
+CallsToPut-edge c d e before between after bytes done edge put is called kept =
+    let own : CallsToPut d e between after bytes =
+    record { each_piece = called; kept = omega (arith, ap length kept, length-last_piece (between ++ bytes), length-append between bytes) } in
+    CallsToPut-more c d e before between after (edges_text done) bytes _ put own (sym (lines-edge done edge bytes is))
+
+-- the calls for some lines are not more than those for all
+pub CallsToPut-within : (c d e : ℕ) (before between bytes : List ℕ) (all done rest : List Triple) (edge : Triple) → CallsToPut c d before between (edges_text done)
+    → bytes ≡ edge_line edge → e ≡ raised d (full_count (length between + length bytes)) → all ≡ done ++ (edge ∷ rest)
+    → e ≤ raised c (full_count (length before + length (edges_text all)))
+CallsToPut-within c d e before between bytes all done rest edge put is called same =
+    let own = CallsToPut-edge c d e before between (last_piece (between ++ bytes)) bytes done edge put is called refl in
+    let lines = ap edges_text (same ∙ sym (append_assoc done (edge ∷ []) rest)) ∙ edges_text-append (done ++ edge ∷ []) rest in
+    omega (arith, own.each_piece, ap length lines, length-append (edges_text (done ++ edge ∷ [])) (edges_text rest))
 
 -- ---- the file that is made
 

@@ -10,8 +10,12 @@
 --   AreMeant work files               files mean what those of a work mean
 --   MakesFiles work old new           a folder has gained just the files of a work
 --   MakesPart work old new            a folder has gained a part of them
-use Rattle.std.specs.Prelude.{◌≡◌, ℕ, List, [], ◌∷◌, Option, codes, ⊤}
+--   TakesCalls work before now        a folder was called as often as the files of a work take
+--   TakesCallsWithin work before now  it was called no more often than that
+use Rattle.std.specs.Prelude.{◌≡◌, ◌≤◌, ℕ, List, [], ◌∷◌, Option, codes, ⊤}
+use Rattle.gm_io.specs.Count.{raised}
 use Rattle.gm_io.specs.FileList.{FileList, Gained, GainedPart}
+use Rattle.gm_files.specs.Calls.{all_calls}
 use Rattle.gm_files.specs.QueryName.{query_name_of}
 use Rattle.gm_files.specs.declared.texts.QueryFile.TheVariants.{Sparql}
 use Rattle.gm_text.specs.Name.{IsName}
@@ -80,3 +84,11 @@ MakesFiles work old new = (files : FileList) × AreFilesOf work files × Gained 
 -- a folder has gained a part of the files of a work
 abbrev pub MakesPart : Work → (old new : Option FileList) → Type 0
 MakesPart work old new = (files : FileList) × AreFilesOf work files × GainedPart old new files
+
+-- a folder was called as often as the files of a work take
+abbrev pub TakesCalls : Work → (before now : ℕ) → Type 0
+TakesCalls work before now = (files : FileList) × AreFilesOf work files × (now ≡ raised before (all_calls files))
+
+-- it was called no more often than that
+abbrev pub TakesCallsWithin : Work → (before now : ℕ) → Type 0
+TakesCallsWithin work before now = (files : FileList) × AreFilesOf work files × (now ≤ raised before (all_calls files))

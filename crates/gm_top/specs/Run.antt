@@ -7,6 +7,9 @@
 --   GainsPart words left old new        the folder has gained a part of these files
 --   GainsPartIfAny words left old new   the folder has gained such a part, or nothing
 --   GainsMeaning words left old new     the bytes of the files that the folder has gained mean what they are to mean
+--   CallsForFiles words left before now         the folder was called as often as the files of the decided work take
+--   CallsForPart words left before now          it was called no more often than that
+--   CallsForPartIfAny words left before now     so it was, or it was not called
 --   AnswersInput words left answer      a run of the command that the words ask for ends so, where nothing fails
 use Rattle.std.specs.Prelude.{◌≡◌, ◌<◌, ◌≤◌, ◌⊎◌, ℕ, List, ◌++◌, length, Option, IfSome, Result, Ok}
 use Rattle.std.specs.Io.KnownBytes.{IsAtEnd}
@@ -18,7 +21,7 @@ use Rattle.gm_top.specs.declared.outcomes.Outcome.{Outcome}
 use Rattle.gm_top.specs.declared.work.Work.{Work}
 use Rattle.gm_top.specs.Command.{IsCommand, input_of}
 use Rattle.gm_top.specs.Decision.{Decides, IsAnswerTo}
-use Rattle.gm_top.specs.Outputs.{AreMeant, MakesFiles, MakesPart}
+use Rattle.gm_top.specs.Outputs.{AreMeant, MakesFiles, MakesPart, TakesCalls, TakesCallsWithin}
 
 pub record IsReadWhole (left left_after : Option (List ℕ)) : Type 0 where
   pub at_end : IsAtEnd left_after
@@ -50,6 +53,20 @@ pub record GainsMeaning (words : List (List ℕ)) (left : Option (List ℕ)) (ol
   pub work : Work
   pub decided : IsDecided words left (Ok work)
   pub read_back : Told old new (λ xs ys. (files : FileList) × (ys ≡ xs ++ files) × AreMeant work files)
+
+-- the numbers of calls are those before and now
+pub record CallsForFiles (words : List (List ℕ)) (left : Option (List ℕ)) (before now : ℕ) : Type 0 where
+  pub work : Work
+  pub decided : IsDecided words left (Ok work)
+  pub calls : TakesCalls work before now
+
+pub record CallsForPart (words : List (List ℕ)) (left : Option (List ℕ)) (before now : ℕ) : Type 0 where
+  pub work : Work
+  pub decided : IsDecided words left (Ok work)
+  pub calls : TakesCallsWithin work before now
+
+abbrev pub CallsForPartIfAny : List (List ℕ) → Option (List ℕ) → (before now : ℕ) → Type 0
+CallsForPartIfAny words left before now = (now ≡ before) ⊎ CallsForPart words left before now
 
 abbrev pub AnswersInput : List (List ℕ) → Option (List ℕ) → Outcome → Type 0
 AnswersInput words left answer = (command : Command) → IsCommand command words

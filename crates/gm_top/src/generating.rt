@@ -1,8 +1,9 @@
 //! `generate`: from a configuration to its graph.
 
-ghost use Rattle.std.specs.Prelude.{◌≡◌, ◌≢◌, ◌<◌, ◌++◌, true, false, None, All, Err, length};
+ghost use Rattle.std.specs.Prelude.{◌≡◌, ◌≢◌, ◌<◌, ◌≤◌, ◌+◌, ◌++◌, true, false, None, All, Err, length};
 ghost use Rattle.std.specs.Prelude.{IfErr, OnOk, OnErr, IsErrOf, IsTrue};
-ghost use Rattle.gm_io.specs.Count.{Rose, HasCause};
+ghost use Rattle.gm_io.specs.Count.{raised, Rose, HasCause};
+ghost use Rattle.gm_files.specs.Calls.{piece_most, full_count};
 ghost use Rattle.graph_text.specs.EdgesText.{IsInRange, edges_text};
 ghost use Rattle.gm_config.specs.Config.{IsConfig};
 ghost use Rattle.edge_match.specs.Limit.{first_side_over, IsWithinLimit};
@@ -10,8 +11,8 @@ ghost use Rattle.gm_top.specs.declared.commands.Command.TheVariants.{Generate};
 ghost use Rattle.gm_top.specs.declared.work.Work.TheVariants.{Graph};
 ghost use Rattle.gm_top.specs.Outcome.{is_of_deciding, is_of_writing};
 ghost use Rattle.gm_top.specs.Decision.{IsDecision};
-ghost use Rattle.gm_top.specs.Outputs.{MakesFiles, MakesPart};
-ghost use Rattle.gm_top.specs.Putting.{Puts, PutsPart, PutsEdges, PutsEdgesPart};
+ghost use Rattle.gm_top.specs.Outputs.{MakesFiles, MakesPart, TakesCalls, TakesCallsWithin};
+ghost use Rattle.gm_top.specs.Putting.{Puts, PutsPart, CallsToPut, PutsEdges, PutsEdgesPart};
 
 use crate::outcomes::Outcome;
 use crate::work::Work;
@@ -46,6 +47,9 @@ pub(crate) fn written<F: Folder>(
     ensures files { OnOk result (MakesFiles (Graph config.now seed) (F.files folder.old) (F.files folder.new)) }
     ensures finished { OnOk result (F.unfinished folder.new ≡ false) }
     ensures part { OnErr result (MakesPart (Graph config.now seed) (F.files folder.old) (F.files folder.new)) }
+    ensures calls { OnOk result (TakesCalls (Graph config.now seed) (F.calls folder.old) (F.calls folder.new)) }
+    ensures part_calls { OnErr result
+        (TakesCallsWithin (Graph config.now seed) (F.calls folder.old) (F.calls folder.new)) }
     ensures stops { IfErr result (λ outcome. IsTrue (is_of_writing outcome)) }
     ensures fault { IsErrOf result Outcome.WriteFault → Rose (F.faults folder.old) (F.faults folder.new) }
     ensures faults { ¬ IsErrOf result Outcome.WriteFault → F.faults folder.new ≡ F.faults folder.old }
@@ -73,11 +77,12 @@ fn put_edges<F: Folder>(
     requires known { c < length config.now.constraints }
     requires config { IsConfig config.now }
     requires within { first_side_over config.now seed c ≡ None }
+    requires short { length pieces.old < piece_most }
     requires unfinished { F.unfinished folder.old ≡ true }
-    ensures put { OnOk result
-        (PutsEdges config.now seed c (F.files folder.old) (F.files folder.new) pieces.old pieces.new) }
-    ensures part { OnErr result
-        (PutsEdgesPart config.now seed c (F.files folder.old) (F.files folder.new) pieces.old) }
+    ensures put { OnOk result (PutsEdges config.now seed c (F.files folder.old) (F.files folder.new)
+        (F.calls folder.old) (F.calls folder.new) pieces.old pieces.new) }
+    ensures part { OnErr result (PutsEdgesPart config.now seed c (F.files folder.old) (F.files folder.new)
+        (F.calls folder.old) (F.calls folder.new) pieces.old) }
     ensures unfinished { F.unfinished folder.new ≡ true }
     ensures stops { IfErr result (λ outcome. IsTrue (is_of_writing outcome)) }
     ensures fault { IsErrOf result Outcome.WriteFault → Rose (F.faults folder.old) (F.faults folder.new) }
@@ -95,10 +100,15 @@ fn put_lines<F: Folder>(
     folder: &mut F,
 ) -> Result<(), WriteFault>
     requires in_range { All IsInRange edges }
+    requires short { length pieces.old < piece_most }
     requires unfinished { F.unfinished folder.old ≡ true }
     ensures put { OnOk result
         (Puts (F.files folder.old) (F.files folder.new) pieces.old pieces.new (edges_text edges)) }
     ensures part { OnErr result (PutsPart (F.files folder.old) (F.files folder.new) (pieces.old ++ edges_text edges)) }
+    ensures calls { OnOk result
+        (CallsToPut (F.calls folder.old) (F.calls folder.new) pieces.old pieces.new (edges_text edges)) }
+    ensures part_calls { OnErr result
+        (F.calls folder.new ≤ raised (F.calls folder.old) (full_count (length pieces.old + length (edges_text edges)))) }
     ensures unfinished { F.unfinished folder.new ≡ true }
     ensures cause { HasCause (F.faults folder.old) (F.faults folder.new) result }
 {

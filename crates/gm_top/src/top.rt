@@ -5,9 +5,10 @@ ghost use Rattle.gm_top.specs.Command.{texts, AskForNone};
 ghost use Rattle.gm_top.specs.Outcome.{is_after_reading, is_refusal, is_of_bytes};
 ghost use Rattle.gm_top.specs.Outcome.{is_decision, is_of_input, is_of_writing};
 ghost use Rattle.gm_top.specs.Decision.{Decides};
-ghost use Rattle.gm_top.specs.Outputs.{IsAccepted, MakesFiles, MakesPart};
+ghost use Rattle.gm_top.specs.Outputs.{IsAccepted, MakesFiles, MakesPart, TakesCalls, TakesCallsWithin};
 ghost use Rattle.gm_top.specs.Run.{IsReadWhole, IsTooLong, IsDecided, AnswersInput};
 ghost use Rattle.gm_top.specs.Run.{GainsFiles, GainsPart, GainsPartIfAny, GainsMeaning};
+ghost use Rattle.gm_top.specs.Run.{CallsForFiles, CallsForPart, CallsForPartIfAny};
 
 use crate::commands::{Command, command_of};
 use crate::outcomes::Outcome;
@@ -58,6 +59,14 @@ pub fn run<S: Source, F: Folder>(
         → GainsPartIfAny (texts words.now) (S.left source.old) (F.files folder.old) (F.files folder.new) }
     ensures finished { result ≢ Outcome.WriteFault → result ≢ Outcome.NoMemory → F.unfinished folder.new ≡ false }
 
+    // The calls of the folder: for each file one create, one finish, and one write for each started 65,536 bytes.
+    ensures calls { result ≡ Outcome.Done
+        → CallsForFiles (texts words.now) (S.left source.old) (F.calls folder.old) (F.calls folder.new) }
+    ensures write_fault_calls { result ≡ Outcome.WriteFault
+        → CallsForPart (texts words.now) (S.left source.old) (F.calls folder.old) (F.calls folder.new) }
+    ensures no_memory_calls { result ≡ Outcome.NoMemory
+        → CallsForPartIfAny (texts words.now) (S.left source.old) (F.calls folder.old) (F.calls folder.new) }
+
     // Only an answer that names a fault follows one.
     ensures source_faults { result ≢ Outcome.ReadFault → S.faults source.new ≡ S.faults source.old }
     ensures folder_faults { result ≢ Outcome.WriteFault → F.faults folder.new ≡ F.faults folder.old }
@@ -107,6 +116,8 @@ fn written<F: Folder>(alloc: Global, work: &Work, folder: &mut F) -> Result<(), 
     ensures files { OnOk result (MakesFiles work.now (F.files folder.old) (F.files folder.new)) }
     ensures finished { OnOk result (F.unfinished folder.new ≡ false) }
     ensures part { OnErr result (MakesPart work.now (F.files folder.old) (F.files folder.new)) }
+    ensures calls { OnOk result (TakesCalls work.now (F.calls folder.old) (F.calls folder.new)) }
+    ensures part_calls { OnErr result (TakesCallsWithin work.now (F.calls folder.old) (F.calls folder.new)) }
     ensures stops { IfErr result (λ outcome. IsTrue (is_of_writing outcome)) }
     ensures fault { IsErrOf result Outcome.WriteFault → Rose (F.faults folder.old) (F.faults folder.new) }
     ensures faults { ¬ IsErrOf result Outcome.WriteFault → F.faults folder.new ≡ F.faults folder.old }

@@ -7,7 +7,7 @@ ghost use Rattle.gm_top.specs.declared.commands.Command.TheVariants.{Translate};
 ghost use Rattle.gm_top.specs.declared.work.Work.TheVariants.{Query};
 ghost use Rattle.gm_top.specs.Outcome.{is_of_deciding, is_of_writing};
 ghost use Rattle.gm_top.specs.Decision.{IsDecision};
-ghost use Rattle.gm_top.specs.Outputs.{MakesFiles, MakesPart};
+ghost use Rattle.gm_top.specs.Outputs.{MakesFiles, MakesPart, TakesCalls, TakesCallsWithin};
 
 use crate::outcomes::Outcome;
 use crate::work::Work;
@@ -37,6 +37,8 @@ pub(crate) fn written<F: Folder>(
     ensures files { OnOk result (MakesFiles (Query label.now) (F.files folder.old) (F.files folder.new)) }
     ensures finished { OnOk result (F.unfinished folder.new ≡ false) }
     ensures part { OnErr result (MakesPart (Query label.now) (F.files folder.old) (F.files folder.new)) }
+    ensures calls { OnOk result (TakesCalls (Query label.now) (F.calls folder.old) (F.calls folder.new)) }
+    ensures part_calls { OnErr result (TakesCallsWithin (Query label.now) (F.calls folder.old) (F.calls folder.new)) }
     ensures stops { IfErr result (λ outcome. IsTrue (is_of_writing outcome)) }
     ensures fault { IsErrOf result Outcome.WriteFault → Rose (F.faults folder.old) (F.faults folder.new) }
     ensures faults { ¬ IsErrOf result Outcome.WriteFault → F.faults folder.new ≡ F.faults folder.old }

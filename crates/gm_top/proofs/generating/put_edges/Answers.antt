@@ -1,6 +1,6 @@
-use Rattle.std.proofs.Common.{refl}
+use Rattle.std.proofs.Common.{refl, arith}
 use Rattle.graph_text.specs.EdgesText.{edges_text}
-use Rattle.gm_top.proofs.EdgeLemmas.{AreEdgesOf-some}
+use Rattle.edge_match.proofs.EdgeLemmas.{AreEdgesOf-some}
 use Rattle.gm_top.proofs.GraphLemmas.{OnErr-all}
 use Rattle.gm_top.proofs.PutLemmas.{PutsPart-none}
 use Rattle.gm_top.proofs.generating.put_edges.Goals as goal
@@ -8,4 +8,4 @@ use Rattle.gm_top.proofs.generating.put_edges.Goals as goal
 pub returns-in_err-edges-clause-part : goal.returns-in_err-edges-clause-part
 returns-in_err-edges-clause-part g c =
     let own = AreEdgesOf-some c.args.config.now c.args.seed c.requires.config c.args.c c.requires.known c.requires.within in
-    OnErr-all c.from_residual.result _ (edges_text own.0, (own.0, own.1, (own.2, refl)), PutsPart-none _ _)
+    OnErr-all c.from_residual.result _ (edges_text own.0, (own.0, own.1, (own.2, refl)), PutsPart-none _ _, omega arith)

@@ -1,8 +1,10 @@
 use Rattle.std.proofs.Common.{◌≡◌, ◌++◌, ◌+◌, ℕ, List, [], length, refl, sym, subst, arith, rules}
+use Rattle.std.proofs.lemmas.List.{length-append}
 use Rattle.gm_files.proofs.Gains.{Gained-write, Gained-nil, Gained-append}
-use Rattle.gm_top.specs.Putting.{AreLinesBefore}
-use Rattle.gm_top.proofs.PutLemmas.{KeepsFiles-same, PutsPart-write, Gained-Puts}
+use Rattle.gm_top.specs.Putting.{AreLinesBefore, CallsToPut}
+use Rattle.gm_top.proofs.PutLemmas.{KeepsFiles-same, PutsPart-write, Gained-Puts, CallsToPut-none, CallsToPut-more}
 use Rattle.gm_top.proofs.GraphLemmas.{OnErr-all, AreLinesBefore-none, AreLinesBefore-more, graph-whole, part-none, part-kept, part-lines, part-whole}
+use Rattle.gm_top.proofs.GraphLemmas.{calls-whole, calls-part, calls-none}
 use Rattle.gm_top.proofs.generating.written.Goals as goal
 
 pub returns-in_err-pieces-clause-part : goal.returns-in_err-pieces-clause-part
@@ -20,6 +22,7 @@ loop-c-init g c = record {
     [],
     subst (λ (text : List ℕ). AreLinesBefore c.args.config.now c.args.seed 0 text) (sym c.in_ok-pieces.ensures) (AreLinesBefore-none c.args.config.now c.args.seed),
     c.in_ok-create.ensures.files,
+    rw (c.in_ok-create.ensures.calls, c.in_ok-pieces.ensures) (CallsToPut-none _ [] (omega arith)),
   );
   unfinished = search rules;
   no_fault = search rules;
@@ -40,7 +43,12 @@ loop-c-preserved g c =
     let now = Gained-Puts _ _ _ _ lines.0 c.loop-c.pieces c.put_edges.new.pieces put.0 (lines.0 ++ c.loop-c.pieces) refl lines.2 put.2 in
     let own = AreLinesBefore-more c.args.config.now c.args.seed c.loop-c.c (lines.0 ++ c.loop-c.pieces) put.0 lines.1 put.1 in
     record {
-      lines = (now.0, subst (λ (text : List ℕ). AreLinesBefore c.args.config.now c.args.seed (c.loop-c.c + 1) text) (sym now.1) own, now.2);
+      lines = (
+        now.0,
+        subst (λ (text : List ℕ). AreLinesBefore c.args.config.now c.args.seed (c.loop-c.c + 1) text) (sym now.1) own,
+        now.2,
+        CallsToPut-more _ _ _ [] _ _ (lines.0 ++ c.loop-c.pieces) put.0 _ lines.3 put.3 now.1,
+      );
       unfinished = search rules;
       no_fault = search rules;
     }
@@ -70,3 +78,49 @@ returns-clause-files g c =
     let gained = Gained-append _ _ _ _ [] written (Gained-nil _ _ c.in_ok-finish.ensures.files) in
     let text = subst (λ (n : ℕ). AreLinesBefore c.args.config.now c.args.seed n (lines.0 ++ c.loop-c.pieces)) all lines.1 in
     graph-whole c.args.config.now c.args.seed _ _ lines.0 c.loop-c.pieces (lines.0 ++ c.loop-c.pieces) text refl gained
+
+-- ---- the calls
+
+pub put_edges-requires-clause-short : goal.put_edges-requires-clause-short
+put_edges-requires-clause-short g c = omega (arith, c.loop-c.invariant.lines.3.kept)
+
+pub returns-in_err-pieces-clause-part_calls : goal.returns-in_err-pieces-clause-part_calls
+returns-in_err-pieces-clause-part_calls g c =
+    OnErr-all c.from_residual.result _ (calls-none c.args.config.now c.args.seed c.constraint_count-count.ensures.config c.requires.within _ _ (omega arith))
+
+pub returns-in_err-create-clause-part_calls : goal.returns-in_err-create-clause-part_calls
+returns-in_err-create-clause-part_calls g c =
+    OnErr-all c.from_residual-in_err-create.result _
+    (calls-none c.args.config.now c.args.seed c.constraint_count-count.ensures.config c.requires.within _ _ (omega (arith, c.in_err-create.ensures.calls)))
+
+pub returns-in_err-put_edges-clause-part_calls : goal.returns-in_err-put_edges-clause-part_calls
+returns-in_err-put_edges-clause-part_calls g c =
+    let lines = c.loop-c.invariant.lines in
+    let part = c.in_err-put_edges.ensures.part in
+    let text = lines.0 ++ c.loop-c.pieces in
+    OnErr-all c.from_residual-in_err-put_edges.result _
+    (calls-part c.args.config.now c.args.seed c.constraint_count-count.ensures.config c.requires.within _ _ (c.loop-c.c + 1) (text ++ part.0) (omega arith)
+    (AreLinesBefore-more c.args.config.now c.args.seed c.loop-c.c text part.0 lines.1 part.1)
+    (omega (arith, part.3, lines.3.each_piece, lines.3.kept, length-append text part.0)))
+
+pub returns-in_err-flush-clause-part_calls : goal.returns-in_err-flush-clause-part_calls
+returns-in_err-flush-clause-part_calls g c =
+    let lines = c.loop-c.invariant.lines in
+    OnErr-all c.from_residual-in_err-flush.result _
+    (calls-part c.args.config.now c.args.seed c.constraint_count-count.ensures.config c.requires.within _ _ c.loop-c.c (lines.0 ++ c.loop-c.pieces) (omega arith) lines.1
+    (omega (arith, c.in_err-flush.ensures.calls, lines.3.each_piece, lines.3.kept)))
+
+pub returns-in_err-finish-clause-part_calls : goal.returns-in_err-finish-clause-part_calls
+returns-in_err-finish-clause-part_calls g c =
+    let lines = c.loop-c.invariant.lines in
+    OnErr-all c.from_residual-in_err-finish.result _
+    (calls-part c.args.config.now c.args.seed c.constraint_count-count.ensures.config c.requires.within _ _ c.loop-c.c (lines.0 ++ c.loop-c.pieces) (omega arith) lines.1
+    (omega (arith, c.in_err-finish.ensures.calls, c.in_ok-flush.ensures.calls, lines.3.each_piece, lines.3.kept)))
+
+pub returns-clause-calls : goal.returns-clause-calls
+returns-clause-calls g c =
+    let lines = c.loop-c.invariant.lines in
+    let all : c.loop-c.c ≡ length c.args.config.now.constraints = omega arith in
+    let text = subst (λ (n : ℕ). AreLinesBefore c.args.config.now c.args.seed n (lines.0 ++ c.loop-c.pieces)) all lines.1 in
+    calls-whole c.args.config.now c.args.seed _ _ (lines.0 ++ c.loop-c.pieces) text
+    (omega (arith, c.in_ok-finish.ensures.calls, c.in_ok-flush.ensures.calls, lines.3.each_piece, lines.3.kept))
