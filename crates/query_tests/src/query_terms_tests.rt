@@ -1,5 +1,9 @@
 //! What the public calls of `query_terms` answer, for cases whose answers are known from outside.
 
+ghost use Rattle.std.specs.Prelude.{◌≡◌, ◌<◌, ◌≤◌, ◌+◌, ◌++◌, [], ◌∷◌, true, false, length, OnOk};
+ghost use Rattle.query_terms.specs.Building.{symbols_most};
+ghost use Rattle.query_terms.specs.Values.{has_edge};
+
 use gm_text::Arena;
 use query_terms::{Heads, QueryBuilder, Term, TermStore};
 use sel_algebra::{Class, Shape, Symbol};
@@ -31,8 +35,25 @@ const TWO_HEADS: Heads = Heads {
     vars: [0, 1, 0, 0],
 };
 
-fn along(edge: u8) -> Symbol {
+fn along(edge: u8) -> Symbol
+    ensures { result ≡ record { edge = edge; back = false } }
+{
     Symbol { edge, back: false }
+}
+
+/// A word of two symbols more.
+fn pair(builder: &mut QueryBuilder<'_>, first: Symbol, second: Symbol) -> Result<(), AllocError>
+    requires usable { builder.old.refused ≡ false }
+    requires first { has_edge (length builder.old.labels) first ≡ true }
+    requires second { has_edge (length builder.old.labels) second ≡ true }
+    requires few { builder.old.taken + 1 < symbols_most }
+    requires word { builder.old.word ≡ [] }
+    ensures { OnOk result (builder.new ≡ record builder.old { words = builder.old.words ++ (first ∷ second ∷ []) ∷ []; taken = builder.old.taken + 1 + 1 }) }
+{
+    builder.symbol(first)?;
+    builder.symbol(second)?;
+    builder.end_word()?;
+    Ok(())
 }
 
 #[test]
@@ -42,12 +63,14 @@ fn a_starred_word_has_its_steps_their_sequence_and_its_repetition(
     let alloc = rt.alloc();
     let arena = Arena::new(alloc);
     let mut builder = QueryBuilder::new(alloc, &arena, &[0, 1])?;
-    builder.symbol(along(0))?;
-    builder.symbol(Symbol {
-        edge: 1,
-        back: true,
-    })?;
-    builder.end_word()?;
+    pair(
+        &mut builder,
+        along(0),
+        Symbol {
+            edge: 1,
+            back: true,
+        },
+    )?;
     builder.end_conjunct(0, 1, true)?;
     builder.end_rule(TWO_HEADS)?;
     let query = builder.finish(Shape::Chain, Some(Class::Linear), Some(Class::Linear))?;
@@ -65,14 +88,10 @@ fn equal_words_have_one_span_and_one_term(rt: HostRuntime) -> Result<(), Fail> {
     let alloc = rt.alloc();
     let arena = Arena::new(alloc);
     let mut builder = QueryBuilder::new(alloc, &arena, &[0, 1])?;
-    builder.symbol(along(0))?;
-    builder.symbol(along(1))?;
-    builder.end_word()?;
+    pair(&mut builder, along(0), along(1))?;
     builder.end_conjunct(0, 1, false)?;
     builder.end_rule(TWO_HEADS)?;
-    builder.symbol(along(0))?;
-    builder.symbol(along(1))?;
-    builder.end_word()?;
+    pair(&mut builder, along(0), along(1))?;
     builder.end_conjunct(0, 2, false)?;
     builder.symbol(along(0))?;
     builder.end_word()?;
@@ -104,12 +123,8 @@ fn the_words_of_a_union_share_their_steps(rt: HostRuntime) -> Result<(), Fail> {
     let alloc = rt.alloc();
     let arena = Arena::new(alloc);
     let mut builder = QueryBuilder::new(alloc, &arena, &[0, 1, 2])?;
-    builder.symbol(along(0))?;
-    builder.symbol(along(1))?;
-    builder.end_word()?;
-    builder.symbol(along(0))?;
-    builder.symbol(along(2))?;
-    builder.end_word()?;
+    pair(&mut builder, along(0), along(1))?;
+    pair(&mut builder, along(0), along(2))?;
     builder.end_conjunct(0, 1, true)?;
     builder.end_rule(TWO_HEADS)?;
     let query = builder.finish(Shape::Chain, Some(Class::Linear), Some(Class::Linear))?;

@@ -9,6 +9,9 @@ const HEAD: &str = "PREFIX : <http://gmark.example/> ";
 fn answer_to(alloc: Global, text: &[u8]) -> Result<Vec<u8>, AllocError> {
     let arena = Arena::new(alloc);
     let mut out = Vec::new(alloc);
+    if text.len() > 16_777_216 {
+        return Ok(out);
+    }
     match read_sparql(alloc, text, &arena) {
         Ok(query) => {
             out.push(b'0' + query.variable_count())?;
@@ -143,6 +146,34 @@ fn depths(rt: HostRuntime) -> Result<(), Fail> {
             answer_to(alloc, &text[..length])?,
             b"NotSparql".to_vec(alloc)?
         );
+    }
+    Ok(())
+}
+
+/// So many `(` between two texts.
+fn opened(alloc: Global, before: &str, count: u32, behind: &str) -> Result<Vec<u8>, AllocError> {
+    let mut text = before.as_bytes().to_vec(alloc)?;
+    for _ in 0..count {
+        text.push(b'(')?;
+    }
+    text.extend_from_slice(behind.as_bytes())?;
+    Ok(text)
+}
+
+#[test]
+fn open_parentheses(rt: HostRuntime) -> Result<(), Fail> {
+    let alloc = rt.alloc();
+    let edge = "PREFIX : <http://gmark.example/>\nSELECT DISTINCT ?h0 ?h1 WHERE {\n{ ?h0 ";
+    for (before, count, behind, answer) in [
+        (edge, 0, ":knows ?h1 . }\n}\n", "2 knows "),
+        (edge, 1, ":knows ?h1 . }\n}\n", "NotSparql"),
+        (edge, 64, ":knows ?h1 . }\n}\n", "NotSparql"),
+        (edge, 65, ":knows ?h1 . }\n}\n", "TooDeep"),
+        ("", 64, "", "NotSparql"),
+        ("", 65, "", "TooDeep"),
+    ] {
+        let text = opened(alloc, before, count, behind)?;
+        assert_eq!(rt; answer_to(alloc, &text)?, answer.as_bytes().to_vec(alloc)?);
     }
     Ok(())
 }
