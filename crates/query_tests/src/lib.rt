@@ -1,7 +1,0 @@
-//! Tests of queries.
-//!
-//! They stand above the crates that they test, since a crate with tests of its own is proved twice.
-#![tactic(auto)]
-
-#[cfg(test)]
-mod query_terms_tests;
