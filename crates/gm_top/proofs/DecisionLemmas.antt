@@ -1,5 +1,6 @@
 -- What a command decides of its input, from what the parts of the work answer.
-use Rattle.std.proofs.Common.{◌≡◌, ◌≢◌, ◌∙◌, ◌<◌, ◌≤◌, ◌+◌, ℕ, zero, suc, List, ◌∷◌, length, map, refl, ap, sym, subst, inl, inr, Option, Some, None, Result, Ok, Err, IfSome, IsTrue, IsErrAnd, false, arith}
+use Rattle.std.proofs.Common.{◌≡◌, ◌≢◌, ◌∙◌, ◌<◌, ◌≤◌, ◌+◌, ℕ, zero, suc, List, [], ◌∷◌, ◌++◌, length, map, refl, ap, sym, subst, inl, inr, Option, Some, None, Result, Ok, Err, IfSome, IfErr, IsTrue, IsErrAnd}
+use Rattle.std.proofs.Common.{Bool, true, false, if◌then◌else◌, arith}
 use Rattle.std.specs.Prelude.{option_map}
 use Rattle.std.specs.List.{range_with_len}
 use Rattle.std.specs.Io.KnownBytes.{IsAtEnd}
@@ -15,6 +16,11 @@ use Rattle.gm_config.specs.declared.errors.ConfigError.{ConfigError}
 use Rattle.gm_config.specs.declared.errors.ConfigError.TheVariants as config
 use Rattle.gm_config.specs.declared.errors.ConfigFault.TheVariants as fault
 use Rattle.gm_config.proofs.ConfigLemmas.{IsConfig-first_broken}
+use Rattle.sel_algebra.specs.declared.vocabulary.Class.{Class}
+use Rattle.sel_algebra.specs.declared.vocabulary.Shape.{Shape}
+use Rattle.query_draw.specs.declared.missing.NoSuchQuery.{NoSuchQuery}
+use Rattle.query_draw.specs.Query.{drawn_shape, drawn_class, has_query}
+use Rattle.query_draw.specs.Missing.{IsFirst}
 use Rattle.edge_match.specs.declared.errors.TooManyStubs.{TooManyStubs}
 use Rattle.edge_match.specs.Limit.{IsWithinLimit, IsFirstOver}
 use Rattle.workload_text.specs.Plain.{IsPlain}
@@ -23,10 +29,11 @@ use Rattle.gm_top.specs.declared.commands.Command.TheVariants.{Translate, Genera
 use Rattle.gm_top.specs.declared.outcomes.Outcome.{Outcome}
 use Rattle.gm_top.specs.declared.outcomes.Outcome.TheVariants as outcome
 use Rattle.gm_top.specs.declared.work.Work.{Work}
-use Rattle.gm_top.specs.declared.work.Work.TheVariants.{Query, Graph}
+use Rattle.gm_top.specs.declared.work.Work.TheVariants.{Query, Files}
 use Rattle.gm_top.specs.Command.{input_of}
-use Rattle.gm_top.specs.Outcome.{config_outcome, broken_outcome, stubs_outcome, is_decision}
-use Rattle.gm_top.specs.Decision.{first_refusal, config_refusal, side_refusal, graph_decision, IsDecision, Decides}
+use Rattle.gm_top.specs.Outcome.{config_outcome, broken_outcome, missing_outcome, stubs_outcome, is_decision, is_of_deciding}
+use Rattle.gm_top.specs.Decision.{first_refusal, config_refusal, query_refusal, side_refusal, files_decision, IsRefusalOf, IsDecision, Decides}
+use Rattle.gm_top.specs.Generation.{GenerationValue, CanDraw}
 use Rattle.gm_top.specs.Outputs.{IsAccepted}
 use Rattle.gm_top.specs.Run.{IsReadWhole}
 
@@ -83,52 +90,150 @@ unmapped : {A : Type 0} (f : A → Outcome) (o : Option A) → option_map f o �
 unmapped f None none = refl
 unmapped f (Some x) none = absurd (cc)
 
+-- ---- some refusals, and then others
+
+append-passed : (refusals others : List (Option Outcome)) (work : Work) → first_refusal refusals work ≡ Ok work
+    → first_refusal (refusals ++ others) work ≡ first_refusal others work
+append-passed [] others work is = refl
+append-passed (None ∷ refusals) others work is = append-passed refusals others work is
+append-passed (Some refusal ∷ refusals) others work is = absurd (cc)
+
+append-refused : (refusals others : List (Option Outcome)) (work : Work) (refusal : Outcome) → first_refusal refusals work ≡ Err refusal
+    → first_refusal (refusals ++ others) work ≡ Err refusal
+append-refused [] others work refusal is = absurd (cc)
+append-refused (None ∷ refusals) others work refusal is = append-refused refusals others work refusal is
+append-refused (Some first ∷ refusals) others work refusal is = is
+
+passed-append : (refusals others : List (Option Outcome)) (work done : Work) → first_refusal (refusals ++ others) work ≡ Ok done
+    → (first_refusal refusals work ≡ Ok work) × (first_refusal others work ≡ Ok done)
+passed-append [] others work done is = (refl, is)
+passed-append (None ∷ refusals) others work done is = passed-append refusals others work done is
+passed-append (Some refusal ∷ refusals) others work done is = absurd (cc)
+
+-- ---- a query that can be drawn, or can't
+
+query-passes : (config : ConfigValue) (seed number : ℕ) → has_query config seed number ≡ true → query_refusal config seed number ≡ None
+query-passes config seed number has =
+    ap (λ (has : Bool). if has then None else Some (outcome.NoSuchQuery number (drawn_shape config seed number) (drawn_class config seed number))) has
+
+query-refused : (config : ConfigValue) (seed : ℕ) (missing : NoSuchQuery) → IsFirst config seed missing
+    → query_refusal config seed missing.query ≡ Some (missing_outcome missing)
+query-refused config seed missing first =
+    let n = missing.query in
+    ap (λ (has : Bool). if has then None else Some (outcome.NoSuchQuery n (drawn_shape config seed n) (drawn_class config seed n))) first.none
+    ∙ ap (λ (shape : Shape). Some (outcome.NoSuchQuery n shape (drawn_class config seed n))) (sym first.shape)
+    ∙ ap (λ (class : Class). Some (outcome.NoSuchQuery n missing.shape class)) (sym first.class)
+
+has-unrefused : (has : Bool) (refusal : Outcome) → (if has then None else Some refusal) ≡ None → has ≡ true
+has-unrefused true refusal none = refl
+has-unrefused false refusal none = absurd (cc)
+
 -- ---- a value that was read
 
-pub decides-graph : (seed : ℕ) (d : Data) → first_broken rules d ≡ None → IsWithinLimit (config_of d) seed
-    → graph_decision seed (Some d) ≡ Ok (Graph (config_of d) seed)
-unfolding graph_decision
-decides-graph seed d none within =
-    skip (config_refusal d) _ _ (ap (option_map broken_outcome) none)
-    ∙ none_refused (side_refusal (config_of d) seed) _ 0 _ (λ c le lt. ap (option_map stubs_outcome) (within c (omega arith)))
+-- what it is, with a seed
+abbrev pub generation_of : Data → ℕ → GenerationValue
+generation_of d seed = record { config = config_of d; seed = seed }
 
-decides-stubs : (seed : ℕ) (d : Data) (over : TooManyStubs) → first_broken rules d ≡ None → IsFirstOver (config_of d) seed over
-    → graph_decision seed (Some d) ≡ Err (stubs_outcome over)
-unfolding graph_decision
-decides-stubs seed d over none first =
-    skip (config_refusal d) _ _ (ap (option_map broken_outcome) none)
-    ∙ first_refused (side_refusal (config_of d) seed) _ _ 0 _ over.constraint (omega arith) (omega (arith, first.constraint)) (ap (option_map stubs_outcome) first.here)
-    (λ b le lt. ap (option_map stubs_outcome) (first.before b lt))
+pub decides-files : (seed : ℕ) (d : Data) → first_broken rules d ≡ None → CanDraw (config_of d) seed → IsWithinLimit (config_of d) seed
+    → files_decision seed (Some d) ≡ Ok (Files (generation_of d seed))
+unfolding files_decision
+decides-files seed d none can within =
+    let config = config_of d in
+    let work = Files (generation_of d seed) in
+    let queries = map (query_refusal config seed) (range_with_len 0 config.workload.queries) in
+    let sides = map (side_refusal config seed) (range_with_len 0 (length config.constraints)) in
+    skip (config_refusal d) (queries ++ sides) work (ap (option_map broken_outcome) none)
+    ∙ append-passed queries sides work (none_refused (query_refusal config seed) work 0 _ (λ n le lt. query-passes config seed n (can n (omega arith))))
+    ∙ none_refused (side_refusal config seed) work 0 _ (λ c le lt. ap (option_map stubs_outcome) (within c (omega arith)))
 
-decides-broken : (seed : ℕ) (d : Data) (first : ℕ × ℕ) → first_broken rules d ≡ Some first → graph_decision seed (Some d) ≡ Err (broken_outcome first)
-unfolding graph_decision
+decides-missing : (seed : ℕ) (d : Data) (missing : NoSuchQuery) → first_broken rules d ≡ None → IsFirst (config_of d) seed missing
+    → files_decision seed (Some d) ≡ Err (missing_outcome missing)
+unfolding files_decision
+decides-missing seed d missing none first =
+    let config = config_of d in
+    let work = Files (generation_of d seed) in
+    let queries = map (query_refusal config seed) (range_with_len 0 config.workload.queries) in
+    let sides = map (side_refusal config seed) (range_with_len 0 (length config.constraints)) in
+    skip (config_refusal d) (queries ++ sides) work (ap (option_map broken_outcome) none)
+    ∙ append-refused queries sides work (missing_outcome missing)
+    (first_refused (query_refusal config seed) work (missing_outcome missing) 0 config.workload.queries missing.query (omega arith) (omega (arith, first.within))
+    (query-refused config seed missing first) (λ b le lt. query-passes config seed b (first.before b lt)))
+
+decides-stubs : (seed : ℕ) (d : Data) (over : TooManyStubs) → first_broken rules d ≡ None → CanDraw (config_of d) seed → IsFirstOver (config_of d) seed over
+    → files_decision seed (Some d) ≡ Err (stubs_outcome over)
+unfolding files_decision
+decides-stubs seed d over none can first =
+    let config = config_of d in
+    let work = Files (generation_of d seed) in
+    let queries = map (query_refusal config seed) (range_with_len 0 config.workload.queries) in
+    let sides = map (side_refusal config seed) (range_with_len 0 (length config.constraints)) in
+    skip (config_refusal d) (queries ++ sides) work (ap (option_map broken_outcome) none)
+    ∙ append-passed queries sides work (none_refused (query_refusal config seed) work 0 _ (λ n le lt. query-passes config seed n (can n (omega arith))))
+    ∙ first_refused (side_refusal config seed) work (stubs_outcome over) 0 _ over.constraint (omega arith) (omega (arith, first.constraint))
+    (ap (option_map stubs_outcome) first.here) (λ b le lt. ap (option_map stubs_outcome) (first.before b lt))
+
+decides-broken : (seed : ℕ) (d : Data) (first : ℕ × ℕ) → first_broken rules d ≡ Some first → files_decision seed (Some d) ≡ Err (broken_outcome first)
+unfolding files_decision
 decides-broken seed d first broken = stop (config_refusal d) _ _ _ (ap (option_map broken_outcome) broken)
 
-decided-graph : (seed : ℕ) (d : Data) (work : Work) → graph_decision seed (Some d) ≡ Ok work
-    → (first_broken rules d ≡ None) × IsWithinLimit (config_of d) seed × (work ≡ Graph (config_of d) seed)
-unfolding graph_decision
-decided-graph seed d work is =
-    let head = passed (config_refusal d) _ (Graph (config_of d) seed) work is in
-    let rest = all_passed (side_refusal (config_of d) seed) (Graph (config_of d) seed) work 0 _ head.1 in
-    (unmapped broken_outcome (first_broken rules d) head.0, (λ c lt. unmapped stubs_outcome _ (rest.1 c (omega arith) (omega arith))), rest.0)
+decided-files : (seed : ℕ) (d : Data) (work : Work) → files_decision seed (Some d) ≡ Ok work
+    → (first_broken rules d ≡ None) × CanDraw (config_of d) seed × IsWithinLimit (config_of d) seed × (work ≡ Files (generation_of d seed))
+unfolding files_decision
+decided-files seed d work is =
+    let config = config_of d in
+    let wanted = Files (generation_of d seed) in
+    let head = passed (config_refusal d) _ wanted work is in
+    let parts = passed-append (map (query_refusal config seed) (range_with_len 0 config.workload.queries)) _ wanted work head.1 in
+    let queries = all_passed (query_refusal config seed) wanted wanted 0 _ parts.0 in
+    let sides = all_passed (side_refusal config seed) wanted work 0 _ parts.1 in (
+      unmapped broken_outcome (first_broken rules d) head.0,
+      (λ n lt. has-unrefused _ _ (queries.1 n (omega arith) (omega arith))),
+      (λ c lt. unmapped stubs_outcome _ (sides.1 c (omega arith) (omega arith))),
+      sides.0,
+    )
 
 -- ---- what is decided of bytes
 
-pub IsDecision-graph : (seed : ℕ) (bytes : List ℕ) (value : ConfigValue) → IsTextOf bytes value → IsWithinLimit value seed
-    → IsDecision (Generate seed) bytes (Ok (Graph value seed))
-IsDecision-graph seed bytes value (d, reads, none, same) within = (
+pub IsDecision-files : (seed : ℕ) (bytes : List ℕ) (value : ConfigValue) → IsTextOf bytes value → CanDraw value seed → IsWithinLimit value seed
+    → IsDecision (Generate seed) bytes (Ok (Files (record { config = value; seed = seed })))
+IsDecision-files seed bytes value (d, reads, none, same) can within = (
   Some d,
   reads,
-  ap (λ v. Ok (Graph v seed)) same ∙ sym (decides-graph seed d none (subst (λ (v : ConfigValue). IsWithinLimit v seed) same within)),
+  ap (λ (v : ConfigValue). Ok (Files (record { config = v; seed = seed }))) same
+      ∙ sym (decides-files seed d none (subst (λ (v : ConfigValue). CanDraw v seed) same can) (subst (λ (v : ConfigValue). IsWithinLimit v seed) same within)),
+)
+
+pub IsDecision-missing : (seed : ℕ) (bytes : List ℕ) (value : ConfigValue) (missing : NoSuchQuery) (answer : Outcome) → IsTextOf bytes value
+    → IsFirst value seed missing → answer ≡ missing_outcome missing → IsDecision (Generate seed) bytes (Err answer)
+IsDecision-missing seed bytes value missing answer (d, reads, none, same) first is = (
+  Some d,
+  reads,
+  ap (λ a. Err a) is ∙ sym (decides-missing seed d missing none (subst (λ (v : ConfigValue). IsFirst v seed missing) same first)),
 )
 
 pub IsDecision-stubs : (seed : ℕ) (bytes : List ℕ) (value : ConfigValue) (over : TooManyStubs) (answer : Outcome) → IsTextOf bytes value
-    → IsFirstOver value seed over → answer ≡ stubs_outcome over → IsDecision (Generate seed) bytes (Err answer)
-IsDecision-stubs seed bytes value over answer (d, reads, none, same) first is = (
+    → CanDraw value seed → IsFirstOver value seed over → answer ≡ stubs_outcome over → IsDecision (Generate seed) bytes (Err answer)
+IsDecision-stubs seed bytes value over answer (d, reads, none, same) can first is = (
   Some d,
   reads,
-  ap (λ a. Err a) is ∙ sym (decides-stubs seed d over none (subst (λ (v : ConfigValue). IsFirstOver v seed over) same first)),
+  ap (λ a. Err a) is
+      ∙ sym (decides-stubs seed d over none (subst (λ (v : ConfigValue). CanDraw v seed) same can) (subst (λ (v : ConfigValue). IsFirstOver v seed over) same first)),
 )
+
+-- a configuration that keeps its rules and is refused, or not
+pub IsDecision-refused : (seed : ℕ) (bytes : List ℕ) (value : ConfigValue) (g : GenerationValue) (refusal : Outcome) → IsTextOf bytes value
+    → g ≡ record { config = value; seed = seed } → IsRefusalOf g (Some refusal) → IsDecision (Generate seed) bytes (Err refusal)
+IsDecision-refused seed bytes value g refusal text same why = refused (subst (λ (g : GenerationValue). IsRefusalOf g (Some refusal)) same why)
+  where
+    refused : IsRefusalOf (record { config = value; seed = seed }) (Some refusal) → IsDecision (Generate seed) bytes (Err refusal)
+    refused (inl (missing, first, is)) = IsDecision-missing seed bytes value missing refusal text first is
+    refused (inr (over, can, first, is)) = IsDecision-stubs seed bytes value over refusal text can first is
+
+pub IsDecision-accepted : (seed : ℕ) (bytes : List ℕ) (value : ConfigValue) (g : GenerationValue) → IsTextOf bytes value
+    → g ≡ record { config = value; seed = seed } → IsRefusalOf g None → IsDecision (Generate seed) bytes (Ok (Files g))
+IsDecision-accepted seed bytes value g text same none =
+    let is = subst (λ (g : GenerationValue). IsRefusalOf g None) same none in
+    subst (λ (g : GenerationValue). IsDecision (Generate seed) bytes (Ok (Files g))) (sym same) (IsDecision-files seed bytes value text is.0 is.1)
 
 -- bytes of which no configuration was read
 pub IsDecision-unread : (result : Result Work Outcome) (seed : ℕ) (bytes : List ℕ) (read : Result ConfigValue ConfigError) (error : ConfigError)
@@ -136,12 +241,12 @@ pub IsDecision-unread : (result : Result Work Outcome) (seed : ℕ) (bytes : Lis
     → ((rule index : ℕ) → read ≡ Err (config.Fault (fault.Broken rule index)) → BreaksFirst bytes rule index)
     → (read ≡ Err (config.Fault fault.NotJson) → HasNoReading bytes)
     → result ≢ Err outcome.NoMemory → IsDecision (Generate seed) bytes result
-unfolding graph_decision
+unfolding files_decision
 IsDecision-unread (Ok work) seed bytes read error failed is broken none other = absurd is
 IsDecision-unread (Err answer) seed bytes read config.NoMemory failed is broken none other = absurd (other (ap (λ a. Err a) is))
 IsDecision-unread (Err answer) seed bytes read (config.Fault fault.NotJson) failed is broken none other = (None, none failed, not_json)
   where
-    not_json : ◌≡◌ {A = Result Work Outcome} (Err answer) (graph_decision seed None)
+    not_json : ◌≡◌ {A = Result Work Outcome} (Err answer) (files_decision seed None)
     not_json = ap (λ a. Err a) is
 IsDecision-unread (Err answer) seed bytes read (config.Fault (fault.Broken rule index)) failed is broken none other =
     let found = broken rule index failed in
@@ -151,6 +256,14 @@ pub IsDecision-memory : {P : Type 0} (result : Result Work Outcome) → IsErrAnd
 IsDecision-memory (Ok work) is other = absurd is
 IsDecision-memory (Err answer) is other = absurd (other (ap (λ a. Err a) is))
 
+pub stops-memory : (result : Result Work Outcome) → IsErrAnd result (λ answer. answer ≡ outcome.NoMemory) → IfErr result (λ answer. IsTrue (is_of_deciding answer))
+stops-memory (Ok work) is = tt
+stops-memory (Err answer) is = rw is refl
+
+pub stops-refusal : (g : GenerationValue) (refusal : Outcome) → IsRefusalOf g (Some refusal) → IsTrue (is_of_deciding refusal)
+stops-refusal g refusal (inl (missing, first, is)) = rw is refl
+stops-refusal g refusal (inr (over, can, first, is)) = rw is refl
+
 pub IsDecision-plain : (bytes label : List ℕ) → IsPlain bytes label → IsDecision Translate bytes (Ok (Query label))
 IsDecision-plain bytes label plain = (Some label, plain, refl)
 
@@ -159,7 +272,7 @@ IsDecision-not_plain bytes none = (None, none, refl)
 
 -- a decided work is accepted
 pub IsAccepted-IsDecision : (command : Command) (bytes : List ℕ) (work : Work) → IsDecision command bytes (Ok work) → IsAccepted work
-unfolding graph_decision
+unfolding files_decision
 IsAccepted-IsDecision Translate bytes work (None, none, is) = absurd (cc)
 IsAccepted-IsDecision Translate bytes work (Some label, plain, is) = subst IsAccepted (query_of work label is) plain.1
   where
@@ -167,11 +280,11 @@ IsAccepted-IsDecision Translate bytes work (Some label, plain, is) = subst IsAcc
     query_of work label is = cc
 IsAccepted-IsDecision (Generate seed) bytes work (None, none, is) = absurd (not_ok work is)
   where
-    not_ok : (work : Work) → Ok work ≡ graph_decision seed None → ⊥
+    not_ok : (work : Work) → Ok work ≡ files_decision seed None → ⊥
     not_ok work is = cc
 IsAccepted-IsDecision (Generate seed) bytes work (Some d, reads, is) =
-    let facts = decided-graph seed d work (sym is) in
-    subst IsAccepted (sym facts.2) (IsConfig-first_broken d facts.0, facts.1)
+    let facts = decided-files seed d work (sym is) in
+    subst IsAccepted (sym facts.3) (record { rules = IsConfig-first_broken d facts.0; queries = facts.1; sides = facts.2 })
 
 -- what is decided of the bytes that were read is decided of the input
 pub decision-made : (command : Command) (left : Option (List ℕ)) (bytes : List ℕ) (result : Result Work Outcome) → AreAllLeft (input_of command left) bytes

@@ -14,7 +14,6 @@ use Rattle.gm_config.specs.Config.{ConfigValue, IsConfig}
 use Rattle.edge_match.specs.AllEdges.{AreEdgesBefore}
 use Rattle.edge_match.specs.Limit.{IsWithinLimit}
 use Rattle.edge_match.proofs.AllEdgesLemmas.{AreEdgesBefore-none, AreEdgesBefore-more}
-use Rattle.gm_top.specs.declared.work.Work.TheVariants.{Graph}
 use Rattle.gm_top.specs.Outputs.{graph, name_of, IsTextOf, MakesFiles, MakesPart, TakesCalls, TakesCallsWithin}
 use Rattle.gm_top.specs.Putting.{PutsPart, AreLinesOf, AreLinesBefore}
 use Rattle.edge_match.proofs.EdgeLemmas.{AreEdgesBefore-next}
@@ -42,15 +41,15 @@ module _ (config : ConfigValue) (seed : ℕ) where
 
   -- the lines of all edges are the text of the graph
   pub graph-whole : (old new : Option FileList) (done kept text : List ℕ) → AreLinesBefore config seed (length config.constraints) text → done ++ kept ≡ text
-      → Gained old new (graph_file (done ++ kept)) → MakesFiles (Graph config seed) old new
+      → Gained old new (graph_file (done ++ kept)) → MakesFiles (graph config seed ∷ []) old new
   graph-whole old new done kept text lines same gained = (graph_file (done ++ kept), (refl, rw same lines, tt), gained)
 
-  pub part-whole : (old new : Option FileList) → MakesFiles (Graph config seed) old new → MakesPart (Graph config seed) old new
+  pub part-whole : (old new : Option FileList) → MakesFiles (graph config seed ∷ []) old new → MakesPart (graph config seed ∷ []) old new
   part-whole old new (files, are, gained) = (files, are, GainedPart-all old new files gained)
 
   -- the calls for the file of the lines of all edges
   pub calls-whole : (before now : ℕ) (text : List ℕ) → AreLinesBefore config seed (length config.constraints) text → now ≡ raised before (file_calls (length text))
-      → TakesCalls (Graph config seed) before now
+      → TakesCalls (graph config seed ∷ []) before now
   calls-whole before now text lines is = (graph_file text, (refl, lines, tt), omega (arith, is))
 
   module _ (rules : IsConfig config) (within : IsWithinLimit config seed) where
@@ -69,27 +68,27 @@ module _ (config : ConfigValue) (seed : ℕ) where
           ),
         )
 
-    pub IsTextOf-some : (text : List ℕ) × IsTextOf (graph config seed) text
-    IsTextOf-some = later_lines 0 [] (omega arith) (AreLinesBefore-none config seed)
+    pub graph_text-some : (text : List ℕ) × IsTextOf (graph config seed) text
+    graph_text-some = later_lines 0 [] (omega arith) (AreLinesBefore-none config seed)
 
     -- no more calls than for a file of the lines of some constraints
     pub calls-part : (before now c : ℕ) (text : List ℕ) → c ≤ length config.constraints → AreLinesBefore config seed c text → now ≤ raised before (file_calls (length text))
-        → TakesCallsWithin (Graph config seed) before now
+        → TakesCallsWithin (graph config seed ∷ []) before now
     calls-part before now c text known lines few =
         let rest = later_lines c text known lines in
         (graph_file (text ++ rest.0), (refl, rest.1, tt), omega (arith, few, length-append text rest.0))
 
-    pub calls-none : (before now : ℕ) → now ≤ raised before 1 → TakesCallsWithin (Graph config seed) before now
+    pub calls-none : (before now : ℕ) → now ≤ raised before 1 → TakesCallsWithin (graph config seed ∷ []) before now
     calls-none before now few = calls-part before now 0 [] (omega arith) (AreLinesBefore-none config seed) (omega (arith, few))
 
-    pub part-none : (old new : Option FileList) → KeepsFiles old new → MakesPart (Graph config seed) old new
+    pub part-none : (old new : Option FileList) → KeepsFiles old new → MakesPart (graph config seed ∷ []) old new
     part-none old new kept =
         let rest = later_lines 0 [] (omega arith) (AreLinesBefore-none config seed) in
         (graph_file rest.0, (refl, rest.1, tt), GainedPart-none old new _ kept)
 
     -- a write failed of what was kept of the lines of some constraints
     pub part-kept : (old mid new : Option FileList) (c : ℕ) (done kept text : List ℕ) → c ≤ length config.constraints → AreLinesBefore config seed c text
-        → done ++ kept ≡ text → Gained old mid (graph_file done) → PutsPart mid new kept → MakesPart (Graph config seed) old new
+        → done ++ kept ≡ text → Gained old mid (graph_file done) → PutsPart mid new kept → MakesPart (graph config seed ∷ []) old new
     part-kept old mid new c done kept text known lines same gained put =
         let rest = later_lines c text known lines in (
           graph_file (text ++ rest.0),
@@ -99,7 +98,7 @@ module _ (config : ConfigValue) (seed : ℕ) where
 
     -- it stopped among the lines of constraint c
     pub part-lines : (old mid new : Option FileList) (c : ℕ) (done kept text own : List ℕ) → c < length config.constraints → AreLinesBefore config seed c text
-        → AreLinesOf config seed c own → done ++ kept ≡ text → Gained old mid (graph_file done) → PutsPart mid new (kept ++ own) → MakesPart (Graph config seed) old new
+        → AreLinesOf config seed c own → done ++ kept ≡ text → Gained old mid (graph_file done) → PutsPart mid new (kept ++ own) → MakesPart (graph config seed ∷ []) old new
     part-lines old mid new c done kept text own known lines mine same gained put =
         let rest = later_lines (c + 1) (text ++ own) (omega arith) (AreLinesBefore-more config seed c text own lines mine) in
         let parts =

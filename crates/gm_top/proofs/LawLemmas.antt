@@ -1,5 +1,6 @@
 -- Every input has one decision, and every work has one list of files.
 use Rattle.std.proofs.Common.{◌≡◌, ◌∙◌, ◌⊎◌, ℕ, List, [], ◌∷◌, Option, Some, None, Result, Ok, Err, refl, ap, sym, subst, inl, inr, true, false}
+use Rattle.std.specs.List.{AllByRecursion}
 use Rattle.std.specs.Str.{is_utf8}
 use Rattle.std.proofs.lemmas.Bool.{cases_Bool}
 use Rattle.std.proofs.lemmas.Str.{IsUtf8-from_is_utf8, is_utf8-from_IsUtf8}
@@ -11,20 +12,22 @@ use Rattle.gm_config.specs.Rule.{first_broken}
 use Rattle.gm_config.specs.Rules.{rules}
 use Rattle.graph_text.specs.EdgesText.{edges_text}
 use Rattle.edge_match.specs.Limit.{IsWithinLimit}
+use Rattle.gm_text.specs.Name.{IsName}
+use Rattle.gm_top.specs.Generation.{CanDraw, IsAcceptedFor}
 use Rattle.edge_match.proofs.AllEdgesLemmas.{AreAllEdges-one, IsConforming-AreAllEdges}
 use Rattle.sparql_read.specs.Plain.{plain_sparql_text}
 use Rattle.gm_top.specs.declared.commands.Command.{Command}
 use Rattle.gm_top.specs.declared.commands.Command.TheVariants.{Translate, Generate}
 use Rattle.gm_top.specs.declared.outcomes.Outcome.{Outcome}
 use Rattle.gm_top.specs.declared.work.Work.{Work}
-use Rattle.gm_top.specs.declared.work.Work.TheVariants.{Query, Graph}
-use Rattle.gm_top.specs.Decision.{IsValueOf, query_decision, graph_decision, IsDecision}
-use Rattle.gm_top.specs.Outputs.{graph, query, name_of, IsAccepted, AreFilesOf, AreMeant}
+use Rattle.gm_top.specs.declared.work.Work.TheVariants.{Query, Files}
+use Rattle.gm_top.specs.Decision.{IsValueOf, query_decision, files_decision, IsDecision}
+use Rattle.gm_top.specs.Outputs.{Output, graph, query, outputs_of, name_of, IsTextOf, Means, IsAccepted, AreFilesOf, AreMeant}
 use Rattle.gm_top.specs.Rows.{MeansQuery}
 use Rattle.gm_top.specs.Laws.{Refuses, DefinesFiles}
-use Rattle.gm_top.proofs.DecisionLemmas.{decides-graph, IsAccepted-IsDecision}
+use Rattle.gm_top.proofs.DecisionLemmas.{decides-files, IsAccepted-IsDecision}
 use Rattle.gm_top.proofs.PlainLemmas.{IsLabelOf-some, IsLabelOf-one}
-use Rattle.gm_top.proofs.GraphLemmas.{IsTextOf-some}
+use Rattle.gm_top.proofs.GraphLemmas.{graph_text-some}
 use Rattle.gm_top.proofs.RowLemmas.{MeansQuery-plain}
 
 -- bytes have a value or none, and one alone
@@ -50,48 +53,69 @@ value_one bytes (Some d) (Some e) p q = sym p.value ∙ q.value
 
 IsDecision-some : (command : Command) (bytes : List ℕ) → (decision : Result Work Outcome) × IsDecision command bytes decision
 IsDecision-some Translate bytes = let label = IsLabelOf-some bytes in (query_decision label.0, (label.0, label.1, refl))
-IsDecision-some (Generate seed) bytes = let value = value_some bytes (read bytes) refl in (graph_decision seed value.0, (value.0, value.1, refl))
+IsDecision-some (Generate seed) bytes = let value = value_some bytes (read bytes) refl in (files_decision seed value.0, (value.0, value.1, refl))
 
 -- what is decided of bytes is one
 pub IsDecision-one : (command : Command) (bytes : List ℕ) (a b : Result Work Outcome) → IsDecision command bytes a → IsDecision command bytes b → a ≡ b
 IsDecision-one Translate bytes a b (label, is_label, p) (other, is_other, q) = p ∙ ap query_decision (IsLabelOf-one bytes label other is_label is_other) ∙ sym q
-IsDecision-one (Generate seed) bytes a b (value, is_value, p) (other, is_other, q) = p ∙ ap (graph_decision seed) (value_one bytes value other is_value is_other) ∙ sym q
+IsDecision-one (Generate seed) bytes a b (value, is_value, p) (other, is_other, q) = p ∙ ap (files_decision seed) (value_one bytes value other is_value is_other) ∙ sym q
 
--- an accepted work has files
-AreFilesOf-some : (work : Work) → IsAccepted work → (files : FileList) × AreFilesOf work files
-AreFilesOf-some (Query label) accepted = ((name_of (query label), plain_sparql_text label) ∷ [], (refl, refl, tt))
-AreFilesOf-some (Graph config seed) accepted =
-    let text = IsTextOf-some config seed accepted.0 accepted.1 in
-    ((name_of (graph config seed), text.0) ∷ [], (refl, text.1, tt))
+-- ---- files, one after another
+
+-- an output of an accepted work
+abbrev pub IsAcceptedOutput : Output → Type 0
+IsAcceptedOutput (query label) = IsName label
+IsAcceptedOutput (graph config seed) = IsAcceptedFor config seed
+
+pub outputs-accepted : (work : Work) → IsAccepted work → AllByRecursion IsAcceptedOutput (outputs_of work)
+outputs-accepted (Query label) accepted = (accepted, tt)
+outputs-accepted (Files g) accepted = (accepted, tt)
+
+-- it has a text
+pub IsTextOf-some : (output : Output) → IsAcceptedOutput output → (text : List ℕ) × IsTextOf output text
+IsTextOf-some (query label) accepted = (plain_sparql_text label, refl)
+IsTextOf-some (graph config seed) accepted = graph_text-some config seed accepted.rules accepted.sides
+
+-- it has one text
+IsTextOf-one : (output : Output) (text other : List ℕ) → IsTextOf output text → IsTextOf output other → text ≡ other
+IsTextOf-one (query label) text other p q = p ∙ sym q
+IsTextOf-one (graph config seed) text other (edges, all, reading) (others, all_others, read_so) =
+    sym reading.1 ∙ ap edges_text (AreAllEdges-one config seed edges others all all_others) ∙ read_so.1
+
+-- the text means what it is to mean
+Means-IsTextOf : (output : Output) (text : List ℕ) → IsAcceptedOutput output → IsTextOf output text → Means output text
+Means-IsTextOf (query label) text accepted is = subst (MeansQuery label) (sym is) (MeansQuery-plain label accepted)
+Means-IsTextOf (graph config seed) text accepted (edges, all, reading) = (edges, reading, IsConforming-AreAllEdges config seed edges accepted.rules all)
+
+-- accepted outputs have files
+pub AreFilesOf-some : (outputs : List Output) → AllByRecursion IsAcceptedOutput outputs → (files : FileList) × AreFilesOf outputs files
+AreFilesOf-some [] accepted = ([], tt)
+AreFilesOf-some (output ∷ outputs) accepted =
+    let text = IsTextOf-some output accepted.0 in
+    let files = AreFilesOf-some outputs accepted.1 in
+    ((name_of output, text.0) ∷ files.0, (refl, text.1, files.1))
 
 one_file : (name other text more : List ℕ) → name ≡ other → text ≡ more → ◌≡◌ {A = List ℕ × List ℕ} (name, text) (other, more)
 one_file name other text more p q = ap (λ (n : List ℕ). (n, text)) p ∙ ap (λ (t : List ℕ). (other, t)) q
 
--- a work has one list of files
-pub AreFilesOf-one : (work : Work) (files others : FileList) → AreFilesOf work files → AreFilesOf work others → files ≡ others
-AreFilesOf-one (Query label) [] others p q = absurd p
-AreFilesOf-one (Query label) (file ∷ more ∷ files) others p q = absurd p.2
-AreFilesOf-one (Query label) (file ∷ []) [] p q = absurd q
-AreFilesOf-one (Query label) (file ∷ []) (other ∷ more ∷ others) p q = absurd q.2
-AreFilesOf-one (Query label) (file ∷ []) (other ∷ []) p q =
-    ap (λ (f : List ℕ × List ℕ). f ∷ []) (one_file file.0 other.0 file.1 other.1 (p.0 ∙ sym q.0) (p.1 ∙ sym q.1))
-AreFilesOf-one (Graph config seed) [] others p q = absurd p
-AreFilesOf-one (Graph config seed) (file ∷ more ∷ files) others p q = absurd p.2
-AreFilesOf-one (Graph config seed) (file ∷ []) [] p q = absurd q
-AreFilesOf-one (Graph config seed) (file ∷ []) (other ∷ more ∷ others) p q = absurd q.2
-AreFilesOf-one (Graph config seed) (file ∷ []) (other ∷ []) (name, (edges, all, reading), end) (other_name, (others, all_others, read_so), other_end) =
-    let same = AreAllEdges-one config seed edges others all all_others in
-    ap (λ (f : List ℕ × List ℕ). f ∷ []) (one_file file.0 other.0 file.1 other.1 (name ∙ sym other_name) (sym reading.1 ∙ ap edges_text same ∙ read_so.1))
+-- they have one list of files
+pub AreFilesOf-one : (outputs : List Output) (files others : FileList) → AreFilesOf outputs files → AreFilesOf outputs others → files ≡ others
+AreFilesOf-one [] [] [] p q = refl
+AreFilesOf-one [] [] (other ∷ others) p q = absurd q
+AreFilesOf-one [] (file ∷ files) others p q = absurd p
+AreFilesOf-one (output ∷ outputs) [] others p q = absurd p
+AreFilesOf-one (output ∷ outputs) (file ∷ files) [] p q = absurd q
+AreFilesOf-one (output ∷ outputs) (file ∷ files) (other ∷ others) p q =
+    ap (λ (f : List ℕ × List ℕ). f ∷ files) (one_file file.0 other.0 file.1 other.1 (p.0 ∙ sym q.0) (IsTextOf-one output file.1 other.1 p.1 q.1))
+    ∙ ap (λ (fs : FileList). other ∷ fs) (AreFilesOf-one outputs files others p.2 q.2)
 
--- the files of an accepted work mean what they are to mean
-pub AreMeant-AreFilesOf : (work : Work) (files : FileList) → IsAccepted work → AreFilesOf work files → AreMeant work files
-AreMeant-AreFilesOf (Query label) [] accepted are = absurd are
-AreMeant-AreFilesOf (Query label) (file ∷ more ∷ files) accepted are = absurd are.2
-AreMeant-AreFilesOf (Query label) (file ∷ []) accepted are = (are.0, subst (MeansQuery label) (sym are.1) (MeansQuery-plain label accepted), tt)
-AreMeant-AreFilesOf (Graph config seed) [] accepted are = absurd are
-AreMeant-AreFilesOf (Graph config seed) (file ∷ more ∷ files) accepted are = absurd are.2
-AreMeant-AreFilesOf (Graph config seed) (file ∷ []) accepted (name, (edges, all, reading), end) =
-    (name, (edges, reading, IsConforming-AreAllEdges config seed edges accepted.0 all), tt)
+-- their files mean what they are to mean
+pub AreMeant-AreFilesOf : (outputs : List Output) (files : FileList) → AllByRecursion IsAcceptedOutput outputs → AreFilesOf outputs files → AreMeant outputs files
+AreMeant-AreFilesOf [] [] accepted are = tt
+AreMeant-AreFilesOf [] (file ∷ files) accepted are = absurd are
+AreMeant-AreFilesOf (output ∷ outputs) [] accepted are = absurd are
+AreMeant-AreFilesOf (output ∷ outputs) (file ∷ files) accepted are =
+    (are.0, Means-IsTextOf output file.1 accepted.0 are.1, AreMeant-AreFilesOf outputs files accepted.1 are.2)
 
 -- ---- the laws
 
@@ -99,7 +123,7 @@ is_decided : (command : Command) (bytes : List ℕ) (decision : Result Work Outc
     → ((refusal : Outcome) × Refuses command bytes refusal) ⊎ ((files : FileList) × DefinesFiles command bytes files)
 is_decided command bytes (Err refusal) decided = inl (refusal, decided)
 is_decided command bytes (Ok work) decided =
-    let files = AreFilesOf-some work (IsAccepted-IsDecision command bytes work decided) in
+    let files = AreFilesOf-some (outputs_of work) (outputs-accepted work (IsAccepted-IsDecision command bytes work decided)) in
     inr (files.0, (work, decided, files.1))
 
 pub every_input_is_decided : (command : Command) (bytes : List ℕ) → ((refusal : Outcome) × Refuses command bytes refusal) ⊎ ((files : FileList) × DefinesFiles command bytes files)
@@ -111,8 +135,8 @@ same_work a b same = cc
 pub files_are_one : (command : Command) (bytes : List ℕ) (files others : FileList) → DefinesFiles command bytes files → DefinesFiles command bytes others → files ≡ others
 files_are_one command bytes files others (work, decided, are) (other, decided_so, are_so) =
     let same = same_work work other (IsDecision-one command bytes (Ok work) (Ok other) decided decided_so) in
-    AreFilesOf-one other files others (subst (λ (w : Work). AreFilesOf w files) same are) are_so
+    AreFilesOf-one (outputs_of other) files others (subst (λ (w : Work). AreFilesOf (outputs_of w) files) same are) are_so
 
-pub accepted_asks_for_its_graph : (seed : ℕ) (bytes : List ℕ) (d : Data) → Reads bytes d → first_broken rules d ≡ None → IsWithinLimit (config_of d) seed
-    → IsDecision (Generate seed) bytes (Ok (Graph (config_of d) seed))
-accepted_asks_for_its_graph seed bytes d reads none within = (Some d, reads, sym (decides-graph seed d none within))
+pub accepted_asks_for_its_files : (seed : ℕ) (bytes : List ℕ) (d : Data) → Reads bytes d → first_broken rules d ≡ None → CanDraw (config_of d) seed
+    → IsWithinLimit (config_of d) seed → IsDecision (Generate seed) bytes (Ok (Files (record { config = config_of d; seed = seed })))
+accepted_asks_for_its_files seed bytes d reads none can within = (Some d, reads, sym (decides-files seed d none can within))

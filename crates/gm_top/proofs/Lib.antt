@@ -1,6 +1,7 @@
 pub mod CommandLemmas
 pub mod DecisionLemmas
 pub mod PutLemmas
+pub mod OutputLemmas
 pub mod GraphLemmas
 pub mod RowLemmas
 pub mod PlainLemmas

@@ -2,8 +2,8 @@
 use Rattle.std.proofs.Common.{◌≡◌, ◌∙◌, ℕ, ◌+◌, ◌<◌, ◌≤◌, List, [], ◌∷◌, ◌++◌, length, take, drop, Option, Some, None, refl, ap, sym, subst, append_assoc, append-nil, inr, arith}
 use Rattle.std.proofs.lemmas.List.{take-append-drop, length-append}
 use Rattle.gm_io.specs.Count.{raised}
-use Rattle.gm_io.specs.FileList.{FileList, Told, with_piece, Gained, GainedPart}
-use Rattle.gm_files.specs.Calls.{piece_most, full_count}
+use Rattle.gm_io.specs.FileList.{FileList, Told, with_piece, Gained, GainedPart, IsPrefix}
+use Rattle.gm_files.specs.Calls.{piece_most, full_count, pieces_of, file_calls}
 use Rattle.gm_files.specs.Pieces.{full_pieces, last_piece}
 use Rattle.gm_files.proofs.Gains.{with_piece-append, Gained-write}
 use Rattle.gm_files.proofs.PieceLemmas.{full_pieces-last_piece, length-last_piece}
@@ -11,7 +11,7 @@ use Rattle.graph_text.specs.declared.graphs.Triple.{Triple}
 use Rattle.graph_text.specs.EdgesText.{edge_line, edges_text}
 use Rattle.graph_text.proofs.EdgesTextLemmas.{edges_text-append}
 use Rattle.gm_io.specs.Folder.{KeepsFiles}
-use Rattle.gm_top.specs.Putting.{Puts, PutsPart, CallsToPut}
+use Rattle.gm_top.specs.Putting.{Puts, PutsPart, CallsToPut, PutsText, PutsTextPart, PutSoFar}
 
 -- two pieces, one after the other, are one
 with_piece-more : (files : FileList) (first second : List ℕ) → with_piece (with_piece files first) second ≡ with_piece files (first ++ second)
@@ -138,23 +138,38 @@ CallsToPut-more c d e before between after text more all first second same = rec
   kept = omega (arith, first.kept, second.kept, ap length same, length-append text more);
 }
 
+-- one more part was put
+pub CallsToPut-part : (c d e : ℕ) (before between after bytes text : List ℕ) → CallsToPut c d before between text
+    → e ≡ raised d (full_count (length between + length bytes)) → after ≡ last_piece (between ++ bytes) → CallsToPut c e before after (text ++ bytes)
+CallsToPut-part c d e before between after bytes text put called kept =
+    let own : CallsToPut d e between after bytes =
+    record { each_piece = called; kept = omega (arith, ap length kept, length-last_piece (between ++ bytes), length-append between bytes) } in
+    CallsToPut-more c d e before between after text bytes _ put own refl
+
+-- the calls for some parts are not more than those for a text that begins with them
+pub CallsToPut-part-within : (c d e : ℕ) (before between bytes text all rest : List ℕ) → CallsToPut c d before between text
+    → e ≡ raised d (full_count (length between + length bytes)) → all ≡ (text ++ bytes) ++ rest
+    → e ≤ raised c (full_count (length before + length all))
+CallsToPut-part-within c d e before between bytes text all rest put called same =
+    let own = CallsToPut-part c d e before between (last_piece (between ++ bytes)) bytes text put called refl in
+    omega (arith, own.each_piece, ap length same, length-append (text ++ bytes) rest)
+
 -- one more line was put
 pub CallsToPut-edge : (c d e : ℕ) (before between after bytes : List ℕ) (done : List Triple) (edge : Triple) → CallsToPut c d before between (edges_text done)
     → bytes ≡ edge_line edge → e ≡ raised d (full_count (length between + length bytes)) → after ≡ last_piece (between ++ bytes)
     → CallsToPut c e before after (edges_text (done ++ edge ∷ []))
 CallsToPut-edge c d e before between after bytes done edge put is called kept =
-    let own : CallsToPut d e between after bytes =
-    record { each_piece = called; kept = omega (arith, ap length kept, length-last_piece (between ++ bytes), length-append between bytes) } in
-    CallsToPut-more c d e before between after (edges_text done) bytes _ put own (sym (lines-edge done edge bytes is))
+    subst (λ (text : List ℕ). CallsToPut c e before after text) (lines-edge done edge bytes is) (CallsToPut-part c d e before between after bytes (edges_text done) put called kept)
 
 -- the calls for some lines are not more than those for all
 pub CallsToPut-within : (c d e : ℕ) (before between bytes : List ℕ) (all done rest : List Triple) (edge : Triple) → CallsToPut c d before between (edges_text done)
     → bytes ≡ edge_line edge → e ≡ raised d (full_count (length between + length bytes)) → all ≡ done ++ (edge ∷ rest)
     → e ≤ raised c (full_count (length before + length (edges_text all)))
 CallsToPut-within c d e before between bytes all done rest edge put is called same =
-    let own = CallsToPut-edge c d e before between (last_piece (between ++ bytes)) bytes done edge put is called refl in
-    let lines = ap edges_text (same ∙ sym (append_assoc done (edge ∷ []) rest)) ∙ edges_text-append (done ++ edge ∷ []) rest in
-    omega (arith, own.each_piece, ap length lines, length-append (edges_text (done ++ edge ∷ [])) (edges_text rest))
+    CallsToPut-part-within c d e before between bytes (edges_text done) (edges_text all) (edges_text rest) put called
+    (ap edges_text (same ∙ sym (append_assoc done (edge ∷ []) rest))
+    ∙ edges_text-append (done ++ edge ∷ []) rest
+    ∙ ap (λ (text : List ℕ). text ++ edges_text rest) (sym (lines-edge done edge bytes is)))
 
 -- ---- the file that is made
 
@@ -192,3 +207,135 @@ GainedPart-PutsPart (Some xs) (Some ys) (Some zs) name done text rest all gained
 pub KeepsFiles-same : (files : Option FileList) → KeepsFiles files files
 KeepsFiles-same None = tt
 KeepsFiles-same (Some xs) = refl
+
+-- ---- a text, and more texts behind it
+
+-- nothing was put
+pub PutsText-none : (files : Option FileList) (calls : ℕ) (kept : List ℕ) → length kept < piece_most → PutsText files files calls calls kept kept []
+PutsText-none files calls kept short = record { puts = Puts-none files kept; called = CallsToPut-none calls kept short }
+
+-- the same text was put
+pub PutsText-same : (old new : Option FileList) (c d : ℕ) (before after text other : List ℕ) → text ≡ other → PutsText old new c d before after text
+    → PutsText old new c d before after other
+PutsText-same old new c d before after text other same put = subst (λ (bytes : List ℕ). PutsText old new c d before after bytes) same put
+
+-- one more piece was put
+pub PutsText-piece : (old mid new : Option FileList) (c d e : ℕ) (before between after text bytes : List ℕ) → PutsText old mid c d before between text
+    → Told mid new (λ xs ys. ys ≡ with_piece xs (full_pieces (between ++ bytes))) → e ≡ raised d (full_count (length between + length bytes))
+    → after ≡ last_piece (between ++ bytes) → PutsText old new c e before after (text ++ bytes)
+PutsText-piece old mid new c d e before between after text bytes put wrote called kept = record {
+  puts = Puts-more old mid new before between after text bytes put.puts wrote kept;
+  called = CallsToPut-part c d e before between after bytes text put.called called kept;
+}
+
+-- one more piece was put, and a write of it failed
+pub PutsTextPart-piece : (old mid new : Option FileList) (c d e : ℕ) (before between text bytes rest all : List ℕ) → PutsText old mid c d before between text
+    → Told mid new (λ xs ys. (kept : ℕ) × (ys ≡ with_piece xs (take kept (full_pieces (between ++ bytes))))) → e ≡ raised d (full_count (length between + length bytes))
+    → all ≡ (text ++ bytes) ++ rest → PutsTextPart old new c e before all
+PutsTextPart-piece old mid new c d e before between text bytes rest all put wrote called is = record {
+  puts =
+      PutsPart-more old mid new before between text bytes (before ++ all) rest put.puts wrote
+      (ap (λ (more : List ℕ). before ++ more) is ∙ sym (append_assoc before (text ++ bytes) rest));
+  called = CallsToPut-part-within c d e before between bytes text all rest put.called called is;
+}
+
+-- one more text was put
+pub PutsText-append : (old mid new : Option FileList) (c d e : ℕ) (before between after text more : List ℕ) → PutsText old mid c d before between text
+    → PutsText mid new d e between after more → PutsText old new c e before after (text ++ more)
+PutsText-append old mid new c d e before between after text more put then = record {
+  puts = (
+    put.puts.0 ++ then.puts.0,
+    put-more before text between more put.puts.0 then.puts.0 after put.puts.1 then.puts.1,
+    Told-more old mid new put.puts.0 then.puts.0 put.puts.2 then.puts.2,
+  );
+  called = CallsToPut-more c d e before between after text more _ put.called then.called refl;
+}
+
+-- the start of what was kept and of one more text was put
+starts-append : (before text between more written start left rest : List ℕ) → before ++ text ≡ written ++ between → between ++ more ≡ start ++ left
+    → before ++ ((text ++ more) ++ rest) ≡ (written ++ start) ++ (left ++ rest)
+starts-append before text between more written start left rest first second =
+    sym (append_assoc before (text ++ more) rest)
+    ∙ ap (λ (bytes : List ℕ). bytes ++ rest) (put-more before text between more written start left first second)
+    ∙ append_assoc (written ++ start) left rest
+
+told-starts : (old mid new : Option FileList) (written text : List ℕ) → Told old mid (λ xs ys. ys ≡ with_piece xs written) → PutsPart mid new text
+    → Told old new (λ xs ys. (start : List ℕ) × IsPrefix start text × (ys ≡ with_piece xs (written ++ start)))
+told-starts None mid new written text once part = tt
+told-starts (Some xs) None new written text once part = absurd once
+told-starts (Some xs) (Some ys) None written text once part = part
+told-starts (Some xs) (Some ys) (Some zs) written text once (start, prefix, wrote) =
+    (start, prefix, wrote ∙ ap (λ (files : FileList). with_piece files start) once ∙ with_piece-more xs written start)
+
+told-part : (old new : Option FileList) (before text between more written rest all : List ℕ) → before ++ text ≡ written ++ between → all ≡ (text ++ more) ++ rest
+    → Told old new (λ xs ys. (start : List ℕ) × IsPrefix start (between ++ more) × (ys ≡ with_piece xs (written ++ start))) → PutsPart old new (before ++ all)
+told-part None new before text between more written rest all first is told = tt
+told-part (Some xs) None before text between more written rest all first is told = told
+told-part (Some xs) (Some ys) before text between more written rest all first is (start, (left, prefix), wrote) = (
+  written ++ start,
+  (left ++ rest, ap (λ (bytes : List ℕ). before ++ bytes) is ∙ starts-append before text between more written start left rest first prefix),
+  wrote,
+)
+
+pub PutsTextPart-append : (old mid new : Option FileList) (c d e : ℕ) (before between text more rest all : List ℕ) → PutsText old mid c d before between text
+    → PutsTextPart mid new d e between more → all ≡ (text ++ more) ++ rest → PutsTextPart old new c e before all
+PutsTextPart-append old mid new c d e before between text more rest all put then is = record {
+  puts =
+      told-part old new before text between more put.puts.0 rest all put.puts.1 is
+      (told-starts old mid new put.puts.0 (between ++ more) put.puts.2 then.puts);
+  called =
+      omega (arith, then.called, put.called.each_piece, put.called.kept, ap length is, length-append (text ++ more) rest, length-append text more);
+}
+
+-- nothing more was put of a text that begins so
+pub PutsTextPart-stopped : (old now : Option FileList) (c d : ℕ) (before after text rest all : List ℕ) → PutsText old now c d before after text
+    → all ≡ text ++ rest → PutsTextPart old now c d before all
+PutsTextPart-stopped old now c d before after text rest all put is =
+    PutsTextPart-append old now now c d d before after text [] rest all put
+    (record { puts = PutsPart-none now (after ++ []); called = omega arith }) (is ∙ ap (λ (bytes : List ℕ). bytes ++ rest) (sym (append-nil text)))
+
+-- ---- a file, from its create to its finish
+
+-- it was created, and nothing is kept
+pub PutSoFar-none : (old now : Option FileList) (calls calls_now : ℕ) (name : List ℕ) → Gained old now ((name, []) ∷ []) → calls_now ≡ raised calls 1
+    → PutSoFar old now calls calls_now name [] []
+PutSoFar-none old now calls calls_now name gained called =
+    record { done = []; whole = refl; gained = gained; called = rw called (CallsToPut-none (raised calls 1) [] (omega arith)) }
+
+-- one more text was put
+pub PutSoFar-more : (old mid new : Option FileList) (calls calls_mid calls_new : ℕ) (name before after text more all : List ℕ)
+    → PutSoFar old mid calls calls_mid name before text → PutsText mid new calls_mid calls_new before after more
+    → all ≡ text ++ more → PutSoFar old new calls calls_new name after all
+PutSoFar-more old mid new calls calls_mid calls_new name before after text more all put then same =
+    let now = Gained-Puts old mid new name put.done before after more text put.whole put.gained then.puts in
+    record { done = now.0; whole = now.1 ∙ sym same; gained = now.2; called = CallsToPut-more _ _ _ [] before after text more all put.called then.called same }
+
+-- a put failed of what was kept and of one more text, with which the text of the file begins
+pub PutSoFar-failed : (old mid new : Option FileList) (calls calls_mid calls_new : ℕ) (name before text more rest all : List ℕ)
+    → PutSoFar old mid calls calls_mid name before text → PutsTextPart mid new calls_mid calls_new before more → all ≡ (text ++ more) ++ rest
+    → GainedPart old new ((name, all) ∷ []) × (calls_new ≤ raised calls (file_calls (length all)))
+PutSoFar-failed old mid new calls calls_mid calls_new name before text more rest all put part is =
+    let parts =
+    is
+    ∙ ap (λ (bytes : List ℕ). (bytes ++ more) ++ rest) (sym put.whole)
+    ∙ ap (λ (bytes : List ℕ). bytes ++ rest) (append_assoc put.done before more)
+    ∙ append_assoc put.done (before ++ more) rest in (
+      GainedPart-PutsPart old mid new name put.done (before ++ more) rest all put.gained part.puts parts,
+      omega (arith, part.called, put.called.each_piece, put.called.kept, ap length is, length-append (text ++ more) rest, length-append text more),
+    )
+
+-- nothing more was put, and the text of the file begins with what was
+pub PutSoFar-stopped : (old now : Option FileList) (calls calls_now : ℕ) (name kept text rest all : List ℕ) → PutSoFar old now calls calls_now name kept text
+    → all ≡ text ++ rest → GainedPart old now ((name, all) ∷ []) × (calls_now ≤ raised calls (file_calls (length all)))
+PutSoFar-stopped old now calls calls_now name kept text rest all put is =
+    PutSoFar-failed old now now calls calls_now calls_now name kept text [] rest all put (record { puts = PutsPart-none now (kept ++ []); called = omega arith })
+    (is ∙ ap (λ (bytes : List ℕ). bytes ++ rest) (sym (append-nil text)))
+
+-- what was kept was written
+pub PutSoFar-flushed : (old mid new : Option FileList) (calls calls_mid calls_new : ℕ) (name kept text : List ℕ) → PutSoFar old mid calls calls_mid name kept text
+    → Told mid new (λ xs ys. ys ≡ with_piece xs kept) → calls_new ≡ raised calls_mid (pieces_of (length kept))
+    → Gained old new ((name, text) ∷ []) × (calls_new ≡ raised calls (1 + pieces_of (length text)))
+PutSoFar-flushed old mid new calls calls_mid calls_new name kept text put wrote called = (
+  subst (λ (bytes : List ℕ). Gained old new ((name, bytes) ∷ [])) put.whole (Gained-write old mid new name put.done kept put.gained wrote),
+  omega (arith, called, put.called.each_piece, put.called.kept),
+)

@@ -10,7 +10,7 @@ use Rattle.gm_io.specs.Count.{raised}
 use Rattle.gm_files.specs.Calls.{file_calls}
 use Rattle.gm_files.proofs.Gains.{GainedPart-none}
 use Rattle.gm_top.specs.declared.work.Work.TheVariants.{Query}
-use Rattle.gm_top.specs.Outputs.{query, name_of, MakesPart, TakesCalls, TakesCallsWithin}
+use Rattle.gm_top.specs.Outputs.{outputs_of, query, name_of, MakesPart, TakesCalls, TakesCallsWithin}
 use Rattle.gm_top.proofs.PutLemmas.{KeepsFiles-same}
 use Rattle.gm_top.specs.Rows.{IsQueryRow, IsSparqlRow, MeansQuery}
 
@@ -34,15 +34,15 @@ pub MeansQuery-plain : (label : List ℕ) → IsName label → MeansQuery label 
 MeansQuery-plain label name = record { reading = edge_reading label; is_read = IsPlainSparql-plain_sparql_text label name; rows = IsSparqlRow-plain label }
 
 -- a folder that is as before has a part of the query's file
-pub query-part-none : (label : List ℕ) (files : Option FileList) → MakesPart (Query label) files files
+pub query-part-none : (label : List ℕ) (files : Option FileList) → MakesPart (outputs_of (Query label)) files files
 query-part-none label files = ((name_of (query label), plain_sparql_text label) ∷ [], (refl, refl, tt), GainedPart-none files files _ (KeepsFiles-same files))
 
 -- the calls for the query's file, and no more than those
-pub query-calls : (label text : List ℕ) (before now : ℕ) → text ≡ plain_sparql_text label → now ≡ raised before (file_calls (length text)) → TakesCalls (Query label) before now
+pub query-calls : (label text : List ℕ) (before now : ℕ) → text ≡ plain_sparql_text label → now ≡ raised before (file_calls (length text)) → TakesCalls (outputs_of (Query label)) before now
 query-calls label text before now is called = ((name_of (query label), text) ∷ [], (refl, is, tt), omega (arith, called))
 
-pub query-calls-part : (label text : List ℕ) (before now : ℕ) → text ≡ plain_sparql_text label → now ≤ raised before (file_calls (length text)) → TakesCallsWithin (Query label) before now
+pub query-calls-part : (label text : List ℕ) (before now : ℕ) → text ≡ plain_sparql_text label → now ≤ raised before (file_calls (length text)) → TakesCallsWithin (outputs_of (Query label)) before now
 query-calls-part label text before now is few = ((name_of (query label), text) ∷ [], (refl, is, tt), omega (arith, few))
 
-pub query-calls-none : (label : List ℕ) (calls : ℕ) → TakesCallsWithin (Query label) calls calls
+pub query-calls-none : (label : List ℕ) (calls : ℕ) → TakesCallsWithin (outputs_of (Query label)) calls calls
 query-calls-none label calls = query-calls-part label (plain_sparql_text label) calls calls refl (omega arith)

@@ -5,16 +5,16 @@ use Rattle.gm_io.specs.FileList.{FileList, Told, Gained}
 use Rattle.gm_top.specs.declared.commands.Command.{Command}
 use Rattle.gm_top.specs.declared.commands.Command.TheVariants.{Translate, Generate}
 use Rattle.gm_top.specs.declared.outcomes.Outcome.{Outcome}
-use Rattle.gm_top.specs.declared.outcomes.Outcome.TheVariants.{Done, Usage, ReadFault, InputTooLong, Config, NotBuilt, TooManyStubs, WriteFault, NoMemory}
+use Rattle.gm_top.specs.declared.outcomes.Outcome.TheVariants.{Done, Usage, ReadFault, InputTooLong, Config, NotBuilt, NoSuchQuery, TooManyStubs, WriteFault, NoMemory}
 use Rattle.gm_top.specs.declared.work.Work.{Work}
 use Rattle.gm_top.specs.Command.{IsCommand, input_of}
 use Rattle.gm_top.specs.Outcome.{is_of_bytes, is_of_input}
 use Rattle.gm_top.specs.Decision.{IsDecision, Decides, outcome_of, IsAnswerTo}
-use Rattle.gm_top.specs.Outputs.{AreMeant, MakesFiles}
+use Rattle.gm_top.specs.Outputs.{outputs_of, AreMeant, MakesFiles}
 use Rattle.gm_top.specs.Run.{GainsMeaning}
 use Rattle.gm_top.proofs.CommandLemmas.{IsCommand-same}
 use Rattle.gm_top.proofs.DecisionLemmas.{IsAccepted-IsDecision}
-use Rattle.gm_top.proofs.LawLemmas.{IsDecision-one, AreMeant-AreFilesOf}
+use Rattle.gm_top.proofs.LawLemmas.{IsDecision-one, outputs-accepted, AreMeant-AreFilesOf}
 
 -- ---- the files
 
@@ -25,12 +25,14 @@ Told-files (Some xs) None P files gained p = gained
 Told-files (Some xs) (Some ys) P files gained p = (files, gained, p)
 
 pub GainsMeaning-Gained : (words : List (List ℕ)) (command : Command) (left : Option (List ℕ)) (old new : Option FileList) (work : Work) → IsCommand command words
-    → Decides command left (Ok work) → MakesFiles work old new → GainsMeaning words left old new
+    → Decides command left (Ok work) → MakesFiles (outputs_of work) old new → GainsMeaning words left old new
 GainsMeaning-Gained words command left old new work asked (bytes, given, decided) (files, are, gained) =
     record {
       work = work;
       decided = record { command = command; asked = asked; decided = (bytes, given, decided) };
-      read_back = Told-files old new (AreMeant work) files gained (AreMeant-AreFilesOf work files (IsAccepted-IsDecision command bytes work decided) are);
+      read_back =
+          Told-files old new (AreMeant (outputs_of work)) files gained
+          (AreMeant-AreFilesOf (outputs_of work) files (outputs-accepted work (IsAccepted-IsDecision command bytes work decided)) are);
     }
 
 -- ---- the answer
@@ -79,6 +81,8 @@ refused_answer command xs ReadFault is memory fault long decided short = absurd 
 refused_answer command xs InputTooLong is memory fault long decided short = too_long command xs (long refl)
 refused_answer command xs (Config reason) is memory fault long decided short = decided_answer command xs (Err (Config reason)) (short refl) (decided refl)
 refused_answer command xs NotBuilt is memory fault long decided short = decided_answer command xs (Err NotBuilt) (short refl) (decided refl)
+refused_answer command xs (NoSuchQuery n shape class) is memory fault long decided short =
+    decided_answer command xs (Err (NoSuchQuery n shape class)) (short refl) (decided refl)
 refused_answer command xs (TooManyStubs c side total) is memory fault long decided short =
     decided_answer command xs (Err (TooManyStubs c side total)) (short refl) (decided refl)
 

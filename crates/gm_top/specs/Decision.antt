@@ -4,13 +4,16 @@
 --   first_refusal refusals work     the first of some refusals, or else the work
 --   query_decision label            what is decided of a text that reads so
 --   config_refusal d                how a value is refused that is no configuration
+--   query_refusal config seed n     how a query is refused that can't be drawn
 --   side_refusal config seed c      how a constraint is refused that has too many stubs
---   graph_decision seed value       what is decided of bytes that read so
+--   refusals_of d seed              all refusals of a value, in the order in which they are decided
+--   IsRefusalOf generation refusal  how a configuration that keeps its rules is refused
+--   files_decision seed value       what is decided of bytes that read so
 --   IsDecision command bytes d      what a command decides of the bytes that it is given
 --   Decides command left d          what it decides where a source has these bytes left
 --   outcome_of decision             how a run ends that decides so
 --   IsAnswerTo command bytes o      how a run ends that is given the bytes, where nothing fails
-use Rattle.std.specs.Prelude.{◌≡◌, ◌<◌, ◌≤◌, ℕ, List, [], ◌∷◌, length, map, Result, Ok, Err}
+use Rattle.std.specs.Prelude.{◌≡◌, ◌⊎◌, ◌<◌, ◌≤◌, ℕ, List, [], ◌∷◌, ◌++◌, if◌then◌else◌, length, map, Result, Ok, Err}
 use Rattle.std.specs.Prelude.{MatchOption, Option, Some, None, option_map}
 use Rattle.std.specs.List.{range_with_len}
 use Rattle.serde_json.specs.Data.{Data}
@@ -21,16 +24,21 @@ use Rattle.gm_config.specs.Reading.{Reads, config_of}
 use Rattle.gm_config.specs.Rule.{first_broken}
 use Rattle.gm_config.specs.Rules.{rules}
 use Rattle.gm_config.specs.declared.errors.ConfigFault.TheVariants as fault
-use Rattle.edge_match.specs.Limit.{first_side_over}
+use Rattle.query_draw.specs.Query.{drawn_shape, drawn_class, has_query}
+use Rattle.query_draw.specs.declared.missing.NoSuchQuery.{NoSuchQuery}
+use Rattle.query_draw.specs.Missing.{IsFirst}
+use Rattle.edge_match.specs.declared.errors.TooManyStubs.{TooManyStubs}
+use Rattle.edge_match.specs.Limit.{first_side_over, IsWithinLimit, IsFirstOver}
 use Rattle.workload_text.specs.Plain.{IsPlain}
 use Rattle.gm_top.specs.declared.commands.Command.{Command}
 use Rattle.gm_top.specs.declared.commands.Command.TheVariants.{Translate, Generate}
 use Rattle.gm_top.specs.declared.outcomes.Outcome.{Outcome}
 use Rattle.gm_top.specs.declared.outcomes.Outcome.TheVariants as outcome
 use Rattle.gm_top.specs.declared.work.Work.{Work}
-use Rattle.gm_top.specs.declared.work.Work.TheVariants.{Query, Graph}
+use Rattle.gm_top.specs.declared.work.Work.TheVariants.{Query, Files}
 use Rattle.gm_top.specs.Command.{input_of}
-use Rattle.gm_top.specs.Outcome.{broken_outcome, stubs_outcome}
+use Rattle.gm_top.specs.Generation.{GenerationValue, CanDraw}
+use Rattle.gm_top.specs.Outcome.{broken_outcome, missing_outcome, stubs_outcome}
 
 -- the label of a text of the plain form, and none of any other text
 abbrev pub IsLabelOf : List ℕ → Option (List ℕ) → Type 0
@@ -55,24 +63,43 @@ query_decision (Some label) = Ok (Query label)
 abbrev pub config_refusal : Data → Option Outcome
 config_refusal d = option_map broken_outcome (first_broken rules d)
 
+-- a query is refused that can't be drawn, with its shape and its class
+abbrev pub query_refusal : ConfigValue → (seed number : ℕ) → Option Outcome
+query_refusal config seed number = if has_query config seed number
+    then None
+    else Some (outcome.NoSuchQuery number (drawn_shape config seed number) (drawn_class config seed number))
+
 -- a constraint is refused with the first of its sides that has too many stubs
 abbrev pub side_refusal : ConfigValue → (seed c : ℕ) → Option Outcome
 side_refusal config seed c = option_map stubs_outcome (first_side_over config seed c)
 
--- a configuration none of whose constraints is refused asks for its graph
-unfoldable pub graph_decision : ℕ → Option Data → Result Work Outcome
-graph_decision seed None = Err (outcome.Config fault.NotJson)
-graph_decision seed (Some d) =
+-- the broken rules of a value, then its queries by their numbers, then its constraints by theirs
+abbrev pub refusals_of : Data → ℕ → List (Option Outcome)
+refusals_of d seed =
     let config = config_of d in
-    let sides = map (side_refusal config seed) (range_with_len 0 (length config.constraints)) in
-    first_refusal (config_refusal d ∷ sides) (Graph config seed)
+    config_refusal d
+    ∷ map (query_refusal config seed) (range_with_len 0 config.workload.queries)
+    ++ map (side_refusal config seed) (range_with_len 0 (length config.constraints))
+
+-- a configuration that keeps its rules is refused for its first query that can't be drawn, or else for its first side
+-- with too many stubs
+abbrev pub IsRefusalOf : GenerationValue → Option Outcome → Type 0
+IsRefusalOf g None = CanDraw g.config g.seed × IsWithinLimit g.config g.seed
+IsRefusalOf g (Some refusal) =
+    ((missing : NoSuchQuery) × IsFirst g.config g.seed missing × (refusal ≡ missing_outcome missing))
+    ⊎ ((over : TooManyStubs) × CanDraw g.config g.seed × IsFirstOver g.config g.seed over × (refusal ≡ stubs_outcome over))
+
+-- a configuration of which nothing is refused asks for its files
+unfoldable pub files_decision : ℕ → Option Data → Result Work Outcome
+files_decision seed None = Err (outcome.Config fault.NotJson)
+files_decision seed (Some d) = first_refusal (refusals_of d seed) (Files (record { config = config_of d; seed = seed }))
 
 -- what a command decides of the bytes that it is given
 abbrev pub IsDecision : Command → List ℕ → Result Work Outcome → Type 0
 IsDecision Translate bytes decision =
     (label : Option (List ℕ)) × IsLabelOf bytes label × (decision ≡ query_decision label)
 IsDecision (Generate seed) bytes decision =
-    (value : Option Data) × IsValueOf bytes value × (decision ≡ graph_decision seed value)
+    (value : Option Data) × IsValueOf bytes value × (decision ≡ files_decision seed value)
 
 -- what a command decides where a source has these bytes left
 abbrev pub Decides : Command → Option (List ℕ) → Result Work Outcome → Type 0

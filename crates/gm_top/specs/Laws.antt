@@ -4,7 +4,7 @@
 --   EveryInputIsDecided                   every input is refused, or defines files
 --   DecisionsAreOne                       no input has two decisions
 --   FilesAreOne                           no input defines two lists of files
---   AcceptedInputsAskForGraphs            a configuration that is within the limit is not refused
+--   AcceptedInputsAskForFiles             a configuration whose queries can be drawn and that is within the limit is not refused
 use Rattle.std.specs.Prelude.{◌≡◌, ◌⊎◌, ℕ, List, None, Result, Ok, Err}
 use Rattle.serde_json.specs.Data.{Data}
 use Rattle.gm_io.specs.FileList.{FileList}
@@ -12,13 +12,14 @@ use Rattle.gm_config.specs.Reading.{Reads, config_of}
 use Rattle.gm_config.specs.Rule.{first_broken}
 use Rattle.gm_config.specs.Rules.{rules}
 use Rattle.edge_match.specs.Limit.{IsWithinLimit}
+use Rattle.gm_top.specs.Generation.{CanDraw}
 use Rattle.gm_top.specs.declared.commands.Command.{Command}
 use Rattle.gm_top.specs.declared.commands.Command.TheVariants.{Generate}
 use Rattle.gm_top.specs.declared.outcomes.Outcome.{Outcome}
 use Rattle.gm_top.specs.declared.work.Work.{Work}
-use Rattle.gm_top.specs.declared.work.Work.TheVariants.{Graph}
+use Rattle.gm_top.specs.declared.work.Work.TheVariants.{Files}
 use Rattle.gm_top.specs.Decision.{IsDecision}
-use Rattle.gm_top.specs.Outputs.{AreFilesOf}
+use Rattle.gm_top.specs.Outputs.{outputs_of, AreFilesOf}
 
 -- a command refuses the bytes so
 abbrev pub Refuses : Command → List ℕ → Outcome → Type 0
@@ -26,7 +27,7 @@ Refuses command bytes refusal = IsDecision command bytes (Err refusal)
 
 -- these are the files that a command makes of the bytes
 abbrev pub DefinesFiles : Command → List ℕ → FileList → Type 0
-DefinesFiles command bytes files = (work : Work) × IsDecision command bytes (Ok work) × AreFilesOf work files
+DefinesFiles command bytes files = (work : Work) × IsDecision command bytes (Ok work) × AreFilesOf (outputs_of work) files
 
 -- every input is refused, or defines files
 abbrev pub EveryInputIsDecided : Type 0
@@ -44,8 +45,8 @@ abbrev pub FilesAreOne : Type 0
 FilesAreOne = (command : Command) (bytes : List ℕ) (files others : FileList)
     → DefinesFiles command bytes files → DefinesFiles command bytes others → files ≡ others
 
--- a configuration none of whose sides has too many stubs asks for its graph
-abbrev pub AcceptedInputsAskForGraphs : Type 0
-AcceptedInputsAskForGraphs = (seed : ℕ) (bytes : List ℕ) (d : Data)
-    → Reads bytes d → first_broken rules d ≡ None → IsWithinLimit (config_of d) seed
-    → IsDecision (Generate seed) bytes (Ok (Graph (config_of d) seed))
+-- a configuration whose queries can be drawn, and none of whose sides has too many stubs, asks for its files
+abbrev pub AcceptedInputsAskForFiles : Type 0
+AcceptedInputsAskForFiles = (seed : ℕ) (bytes : List ℕ) (d : Data)
+    → Reads bytes d → first_broken rules d ≡ None → CanDraw (config_of d) seed → IsWithinLimit (config_of d) seed
+    → IsDecision (Generate seed) bytes (Ok (Files (record { config = config_of d; seed = seed })))

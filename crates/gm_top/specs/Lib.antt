@@ -2,6 +2,7 @@ pub mod Command
 pub mod Outcome
 pub mod Decision
 pub mod Rows
+pub mod Generation
 pub mod Outputs
 pub mod Putting
 pub mod Run

@@ -1,6 +1,6 @@
 -- The exit status and the printed line of each outcome.
 --   status_of outcome, line_of outcome     the two
---   broken_line, stubs_line                the lines that hold numbers
+--   broken_line, missing_line, stubs_line  the lines that hold numbers
 --   is_after_reading outcome               it comes only after the whole input was read
 --   is_refusal outcome                     it is decided before a file is made
 --   is_of_bytes outcome                    the bytes of the input decide it
@@ -8,14 +8,20 @@
 --   is_of_deciding outcome                 it can come while an input is decided that was read
 --   is_of_input outcome                    it can come before a work is decided
 --   is_of_writing outcome                  it can come while files are made
---   broken_outcome, stubs_outcome          the outcome of a broken rule, and of a side with too many stubs
+--   broken_outcome                         the outcome of a broken rule
+--   missing_outcome, stubs_outcome         that of a query that can't be drawn, and of a side with too many stubs
 --   read_outcome, config_outcome, ..       the outcome of an error of a part of the work
 use Rattle.std.specs.Prelude.{ℕ, Bool, true, false, List, ◌++◌, codes, decimal, Result, Ok, Err}
 use Rattle.gm_io.specs.declared.reading.ReadError.{ReadError}
 use Rattle.gm_io.specs.declared.reading.ReadError.TheVariants as read
+use Rattle.sel_algebra.specs.declared.vocabulary.Class.{Class}
+use Rattle.sel_algebra.specs.declared.vocabulary.Class.TheVariants as class
+use Rattle.sel_algebra.specs.declared.vocabulary.Shape.{Shape}
+use Rattle.sel_algebra.specs.declared.vocabulary.Shape.TheVariants as shape
 use Rattle.gm_config.specs.declared.errors.ConfigFault.TheVariants as fault
 use Rattle.gm_config.specs.declared.errors.ConfigError.{ConfigError}
 use Rattle.gm_config.specs.declared.errors.ConfigError.TheVariants as config
+use Rattle.query_draw.specs.declared.missing.NoSuchQuery.{NoSuchQuery}
 use Rattle.edge_match.specs.declared.config_sides.Side.{Side}
 use Rattle.edge_match.specs.declared.config_sides.Side.TheVariants as side
 use Rattle.edge_match.specs.declared.errors.TooManyStubs.{TooManyStubs}
@@ -33,6 +39,7 @@ status_of (outcome.Config fault) = 3
 status_of outcome.ReadFault = 4
 status_of outcome.WriteFault = 5
 status_of outcome.NoMemory = 6
+status_of (outcome.NoSuchQuery query shape class) = 7
 status_of (outcome.TooManyStubs constraint side total) = 8
 status_of outcome.NotBuilt = 9
 
@@ -44,6 +51,24 @@ side_word side.In = codes "in"
 -- the line of a configuration that breaks a rule
 abbrev pub broken_line : ℕ → ℕ → List ℕ
 broken_line rule index = codes "gmark: configuration breaks rule C" ++ (decimal rule ++ (codes " at " ++ decimal index))
+
+-- the word that is printed for a shape
+abbrev pub shape_word : Shape → List ℕ
+shape_word shape.Chain = codes "chain"
+shape_word shape.Star = codes "star"
+shape_word shape.Cycle = codes "cycle"
+shape_word shape.StarChain = codes "starchain"
+
+-- the word that is printed for a class
+abbrev pub class_word : Class → List ℕ
+class_word class.Constant = codes "constant"
+class_word class.Linear = codes "linear"
+class_word class.Quadratic = codes "quadratic"
+
+-- the line of a query that can't be drawn
+abbrev pub missing_line : ℕ → Shape → Class → List ℕ
+missing_line query shape class =
+    codes "gmark: query " ++ (decimal query ++ (codes ": no " ++ (shape_word shape ++ (codes " of class " ++ class_word class))))
 
 -- the line of a side with too many stubs
 abbrev pub stubs_line : ℕ → Side → ℕ → List ℕ
@@ -59,6 +84,7 @@ line_of (outcome.Config (fault.Broken rule index)) = broken_line rule index
 line_of outcome.ReadFault = codes "gmark: reading failed"
 line_of outcome.WriteFault = codes "gmark: writing failed"
 line_of outcome.NoMemory = codes "gmark: out of memory"
+line_of (outcome.NoSuchQuery query shape class) = missing_line query shape class
 line_of (outcome.TooManyStubs constraint side total) = stubs_line constraint side total
 line_of outcome.NotBuilt = codes "gmark: form not built yet"
 
@@ -128,6 +154,10 @@ read_outcome read.NoMemory = outcome.NoMemory
 abbrev pub config_outcome : ConfigError → Outcome
 config_outcome (config.Fault fault) = outcome.Config fault
 config_outcome config.NoMemory = outcome.NoMemory
+
+-- the outcome of a query that can't be drawn
+abbrev pub missing_outcome : NoSuchQuery → Outcome
+missing_outcome missing = outcome.NoSuchQuery missing.query missing.shape missing.class
 
 -- the outcome of a side with too many stubs
 abbrev pub stubs_outcome : TooManyStubs → Outcome

@@ -6,12 +6,12 @@
 --   IsTextOf output text              its bytes
 --   Means output text                 what its bytes mean
 --   AreFiles Has outputs files        files have these names, and their bytes have a property
---   AreFilesOf work files             files are those of a work
---   AreMeant work files               files mean what those of a work mean
---   MakesFiles work old new           a folder has gained just the files of a work
---   MakesPart work old new            a folder has gained a part of them
---   TakesCalls work before now        a folder was called as often as the files of a work take
---   TakesCallsWithin work before now  it was called no more often than that
+--   AreFilesOf outputs files          files are these
+--   AreMeant outputs files            files mean what these mean
+--   MakesFiles outputs old new        a folder has gained just these files
+--   MakesPart outputs old new         a folder has gained a part of them
+--   TakesCalls outputs before now     a folder was called as often as these files take
+--   TakesCallsWithin outputs ..       it was called no more often than that
 use Rattle.std.specs.Prelude.{◌≡◌, ◌≤◌, ℕ, List, [], ◌∷◌, Option, codes, ⊤}
 use Rattle.gm_io.specs.Count.{raised}
 use Rattle.gm_io.specs.FileList.{FileList, Gained, GainedPart}
@@ -21,13 +21,13 @@ use Rattle.gm_files.specs.declared.texts.QueryFile.TheVariants.{Sparql}
 use Rattle.gm_text.specs.Name.{IsName}
 use Rattle.graph_text.specs.declared.graphs.Triple.{Triple}
 use Rattle.graph_text.specs.EdgesText.{IsReading}
-use Rattle.gm_config.specs.Config.{ConfigValue, IsConfig}
+use Rattle.gm_config.specs.Config.{ConfigValue}
 use Rattle.edge_match.specs.AllEdges.{AreAllEdges}
-use Rattle.edge_match.specs.Limit.{IsWithinLimit}
 use Rattle.edge_match.specs.ConformingGraph.{IsConforming}
 use Rattle.sparql_read.specs.Plain.{plain_sparql_text}
 use Rattle.gm_top.specs.declared.work.Work.{Work}
-use Rattle.gm_top.specs.declared.work.Work.TheVariants.{Query, Graph}
+use Rattle.gm_top.specs.declared.work.Work.TheVariants.{Query, Files}
+use Rattle.gm_top.specs.Generation.{IsAcceptedFor}
 use Rattle.gm_top.specs.Rows.{MeansQuery}
 
 -- a file: the graph of a configuration and a seed, or the query for the edges of a label
@@ -38,12 +38,12 @@ pub data Output : Type 0 where
 -- the files that a work is to make, in order
 abbrev pub outputs_of : Work → List Output
 outputs_of (Query label) = query label ∷ []
-outputs_of (Graph config seed) = graph config seed ∷ []
+outputs_of (Files g) = graph g.config g.seed ∷ []
 
--- a work that can be decided: the label is a name, or no side has too many stubs
+-- a work that can be decided: the label is a name, or nothing of the configuration is refused
 abbrev pub IsAccepted : Work → Type 0
 IsAccepted (Query label) = IsName label
-IsAccepted (Graph config seed) = IsConfig config × IsWithinLimit config seed
+IsAccepted (Files g) = IsAcceptedFor g.config g.seed
 
 -- the name of a file
 abbrev pub name_of : Output → List ℕ
@@ -69,26 +69,26 @@ AreFiles Has (output ∷ outputs) [] = ⊥
 AreFiles Has (output ∷ outputs) (file ∷ files) =
     (file.0 ≡ name_of output) × Has output file.1 × AreFiles Has outputs files
 
--- files are those of a work
-abbrev pub AreFilesOf : Work → FileList → Type 0
-AreFilesOf work files = AreFiles IsTextOf (outputs_of work) files
+-- files are these outputs
+abbrev pub AreFilesOf : List Output → FileList → Type 0
+AreFilesOf outputs files = AreFiles IsTextOf outputs files
 
--- files mean what those of a work mean
-abbrev pub AreMeant : Work → FileList → Type 0
-AreMeant work files = AreFiles Means (outputs_of work) files
+-- files mean what these outputs mean
+abbrev pub AreMeant : List Output → FileList → Type 0
+AreMeant outputs files = AreFiles Means outputs files
 
--- a folder has gained just the files of a work
-abbrev pub MakesFiles : Work → (old new : Option FileList) → Type 0
-MakesFiles work old new = (files : FileList) × AreFilesOf work files × Gained old new files
+-- a folder has gained just these files
+abbrev pub MakesFiles : List Output → (old new : Option FileList) → Type 0
+MakesFiles outputs old new = (files : FileList) × AreFilesOf outputs files × Gained old new files
 
--- a folder has gained a part of the files of a work
-abbrev pub MakesPart : Work → (old new : Option FileList) → Type 0
-MakesPart work old new = (files : FileList) × AreFilesOf work files × GainedPart old new files
+-- a folder has gained a part of these files
+abbrev pub MakesPart : List Output → (old new : Option FileList) → Type 0
+MakesPart outputs old new = (files : FileList) × AreFilesOf outputs files × GainedPart old new files
 
--- a folder was called as often as the files of a work take
-abbrev pub TakesCalls : Work → (before now : ℕ) → Type 0
-TakesCalls work before now = (files : FileList) × AreFilesOf work files × (now ≡ raised before (all_calls files))
+-- a folder was called as often as these files take
+abbrev pub TakesCalls : List Output → (before now : ℕ) → Type 0
+TakesCalls outputs before now = (files : FileList) × AreFilesOf outputs files × (now ≡ raised before (all_calls files))
 
 -- it was called no more often than that
-abbrev pub TakesCallsWithin : Work → (before now : ℕ) → Type 0
-TakesCallsWithin work before now = (files : FileList) × AreFilesOf work files × (now ≤ raised before (all_calls files))
+abbrev pub TakesCallsWithin : List Output → (before now : ℕ) → Type 0
+TakesCallsWithin outputs before now = (files : FileList) × AreFilesOf outputs files × (now ≤ raised before (all_calls files))

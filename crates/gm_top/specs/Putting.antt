@@ -2,13 +2,16 @@
 --   Puts old new before after text     a text was put behind the bytes that were kept before
 --   PutsPart old new text              the file has gained the start of a text
 --   CallsToPut calls calls_after ..    the calls of the folder while a text was put
+--   PutsText old new calls ..          a text was put, with these calls
+--   PutsTextPart old new calls ..      the file has gained the start of what was kept and of a text, in no more calls
+--   PutSoFar old now calls ..          a text so far of a file that was created
 --   AreLinesOf config seed c text      the text is the lines of the edges of constraint c
 --   PutsEdges config seed c ..         the lines of constraint c were put
 --   PutsEdgesPart config seed c ..     the file has gained the start of what was kept and of those lines
 --   AreLinesBefore config seed c text  the text is the lines of the edges of the constraints before constraint c
-use Rattle.std.specs.Prelude.{◌≡◌, ◌≤◌, ℕ, ◌+◌, ◌*◌, List, ◌++◌, length, Option}
+use Rattle.std.specs.Prelude.{◌≡◌, ◌≤◌, ℕ, ◌+◌, ◌*◌, List, [], ◌∷◌, ◌++◌, length, Option}
 use Rattle.gm_io.specs.Count.{raised}
-use Rattle.gm_io.specs.FileList.{FileList, Told, with_piece, IsPrefix}
+use Rattle.gm_io.specs.FileList.{FileList, Told, with_piece, Gained, IsPrefix}
 use Rattle.gm_files.specs.Calls.{piece_most, full_count}
 use Rattle.graph_text.specs.declared.graphs.Triple.{Triple}
 use Rattle.graph_text.specs.EdgesText.{IsReading}
@@ -29,6 +32,23 @@ PutsPart old new text =
 pub record CallsToPut (calls calls_after : ℕ) (before after text : List ℕ) : Type 0 where
   pub each_piece : calls_after ≡ raised calls (full_count (length before + length text))
   pub kept : length after + piece_most * full_count (length before + length text) ≡ length before + length text
+
+-- a text was put behind the bytes that were kept before, in just the calls that it takes
+pub record PutsText (old new : Option FileList) (calls calls_after : ℕ) (before after text : List ℕ) : Type 0 where
+  pub puts : Puts old new before after text
+  pub called : CallsToPut calls calls_after before after text
+
+-- the file has gained the start of the bytes that were kept before, followed by a text, in no more calls
+pub record PutsTextPart (old new : Option FileList) (calls calls_after : ℕ) (before text : List ℕ) : Type 0 where
+  pub puts : PutsPart old new (before ++ text)
+  pub called : calls_after ≤ raised calls (full_count (length before + length text))
+
+-- the folder has gained a file of this name, which with the bytes that are kept has this text so far
+pub record PutSoFar (old now : Option FileList) (calls calls_now : ℕ) (name kept text : List ℕ) : Type 0 where
+  pub done : List ℕ
+  pub whole : done ++ kept ≡ text
+  pub gained : Gained old now ((name, done) ∷ [])
+  pub called : CallsToPut (raised calls 1) calls_now [] kept text
 
 -- the text is the lines of the edges of constraint c
 abbrev pub AreLinesOf : ConfigValue → (seed c : ℕ) → List ℕ → Type 0

@@ -21,7 +21,7 @@ use Rattle.gm_top.specs.declared.outcomes.Outcome.{Outcome}
 use Rattle.gm_top.specs.declared.work.Work.{Work}
 use Rattle.gm_top.specs.Command.{IsCommand, input_of}
 use Rattle.gm_top.specs.Decision.{Decides, IsAnswerTo}
-use Rattle.gm_top.specs.Outputs.{AreMeant, MakesFiles, MakesPart, TakesCalls, TakesCallsWithin}
+use Rattle.gm_top.specs.Outputs.{outputs_of, AreMeant, MakesFiles, MakesPart, TakesCalls, TakesCallsWithin}
 
 pub record IsReadWhole (left left_after : Option (List ℕ)) : Type 0 where
   pub at_end : IsAtEnd left_after
@@ -38,12 +38,12 @@ pub record IsDecided (words : List (List ℕ)) (left : Option (List ℕ)) (decis
 pub record GainsFiles (words : List (List ℕ)) (left : Option (List ℕ)) (old new : Option FileList) : Type 0 where
   pub work : Work
   pub decided : IsDecided words left (Ok work)
-  pub made : MakesFiles work old new
+  pub made : MakesFiles (outputs_of work) old new
 
 pub record GainsPart (words : List (List ℕ)) (left : Option (List ℕ)) (old new : Option FileList) : Type 0 where
   pub work : Work
   pub decided : IsDecided words left (Ok work)
-  pub made : MakesPart work old new
+  pub made : MakesPart (outputs_of work) old new
 
 abbrev pub GainsPartIfAny : List (List ℕ) → Option (List ℕ) → (old new : Option FileList) → Type 0
 GainsPartIfAny words left old new = KeepsFiles old new ⊎ GainsPart words left old new
@@ -52,18 +52,18 @@ GainsPartIfAny words left old new = KeepsFiles old new ⊎ GainsPart words left 
 pub record GainsMeaning (words : List (List ℕ)) (left : Option (List ℕ)) (old new : Option FileList) : Type 0 where
   pub work : Work
   pub decided : IsDecided words left (Ok work)
-  pub read_back : Told old new (λ xs ys. (files : FileList) × (ys ≡ xs ++ files) × AreMeant work files)
+  pub read_back : Told old new (λ xs ys. (files : FileList) × (ys ≡ xs ++ files) × AreMeant (outputs_of work) files)
 
 -- the numbers of calls are those before and now
 pub record CallsForFiles (words : List (List ℕ)) (left : Option (List ℕ)) (before now : ℕ) : Type 0 where
   pub work : Work
   pub decided : IsDecided words left (Ok work)
-  pub calls : TakesCalls work before now
+  pub calls : TakesCalls (outputs_of work) before now
 
 pub record CallsForPart (words : List (List ℕ)) (left : Option (List ℕ)) (before now : ℕ) : Type 0 where
   pub work : Work
   pub decided : IsDecided words left (Ok work)
-  pub calls : TakesCallsWithin work before now
+  pub calls : TakesCallsWithin (outputs_of work) before now
 
 abbrev pub CallsForPartIfAny : List (List ℕ) → Option (List ℕ) → (before now : ℕ) → Type 0
 CallsForPartIfAny words left before now = (now ≡ before) ⊎ CallsForPart words left before now

@@ -1,6 +1,6 @@
 //! What is true of every command and every input: each is a function that does nothing, and ensures it.
 
-ghost use Rattle.gm_top.specs.Laws.{EveryInputIsDecided, DecisionsAreOne, FilesAreOne, AcceptedInputsAskForGraphs};
+ghost use Rattle.gm_top.specs.Laws.{EveryInputIsDecided, DecisionsAreOne, FilesAreOne, AcceptedInputsAskForFiles};
 
 /// Every input is refused, or defines the files that a command makes of it.
 pub fn every_input_is_decided()
@@ -17,7 +17,8 @@ pub fn files_are_one()
     ensures { FilesAreOne }
 {}
 
-/// `generate` refuses no configuration that is accepted and none of whose sides has too many stubs.
-pub fn accepted_inputs_ask_for_graphs()
-    ensures { AcceptedInputsAskForGraphs }
+/// `generate` refuses no configuration that is accepted, whose queries can be drawn, and none of whose sides has too
+/// many stubs.
+pub fn accepted_inputs_ask_for_files()
+    ensures { AcceptedInputsAskForFiles }
 {}

@@ -7,8 +7,11 @@
 
 mod commands;
 mod generating;
+mod generation;
+mod graph_file;
 pub mod laws;
 mod outcomes;
+mod putting;
 mod top;
 mod translating;
 mod work;

@@ -1,12 +1,15 @@
 //! How a run ends: its exit status and the line that is printed.
 
 ghost use Rattle.std.specs.Prelude.{◌≡◌, string_bytes, IfOk};
-ghost use Rattle.gm_top.specs.Outcome.{status_of, line_of, broken_line, stubs_line, side_word};
+ghost use Rattle.gm_top.specs.Outcome.{status_of, line_of, broken_line, missing_line, stubs_line};
+ghost use Rattle.gm_top.specs.Outcome.{class_word, shape_word, side_word};
 
 use edge_match::{MatchError, Side, TooManyStubs};
 use gm_config::{ConfigError, ConfigFault};
 use gm_files::WriteFault;
 use gm_io::{Failed, ReadError};
+use query_draw::NoSuchQuery;
+use sel_algebra::{Class, Shape};
 use std::alloc::{AllocError, Global};
 
 /// How a run of the program ends.
@@ -24,6 +27,15 @@ pub enum Outcome {
     Config(ConfigFault),
     /// The input isn't of a form that this version translates.
     NotBuilt,
+    /// A query can't be drawn: with no permitted number of conjuncts can its shape have its class.
+    NoSuchQuery {
+        /// The number of the query.
+        query: u32,
+        /// The shape that was drawn for it.
+        shape: Shape,
+        /// The class that was drawn for it.
+        class: Class,
+    },
     /// A side of a constraint has more stubs than a side may have.
     TooManyStubs {
         /// The number of the constraint.
@@ -52,6 +64,7 @@ impl Outcome {
             Outcome::ReadFault => 4,
             Outcome::WriteFault => 5,
             Outcome::NoMemory => 6,
+            Outcome::NoSuchQuery { .. } => 7,
             Outcome::TooManyStubs { .. } => 8,
             Outcome::NotBuilt => 9,
         }
@@ -78,6 +91,11 @@ impl Outcome {
             Outcome::ReadFault => String::from_str(alloc, "gmark: reading failed"),
             Outcome::WriteFault => String::from_str(alloc, "gmark: writing failed"),
             Outcome::NoMemory => String::from_str(alloc, "gmark: out of memory"),
+            Outcome::NoSuchQuery {
+                query,
+                shape,
+                class,
+            } => missing_line(alloc, query, shape, class),
             Outcome::TooManyStubs {
                 constraint,
                 side,
@@ -93,6 +111,38 @@ fn broken_line(alloc: Global, rule: u8, index: u32) -> Result<String, AllocError
     ensures { IfOk result (λ line. string_bytes line ≡ broken_line rule index) }
 {
     format!(in alloc; "gmark: configuration breaks rule C{rule} at {index}")
+}
+
+/// The line of a query that can't be drawn.
+fn missing_line(alloc: Global, query: u32, shape: Shape, class: Class) -> Result<String, AllocError>
+    ensures { IfOk result (λ line. string_bytes line ≡ missing_line query shape class) }
+{
+    let shape = shape_word(shape);
+    let class = class_word(class);
+    format!(in alloc; "gmark: query {query}: no {shape} of class {class}")
+}
+
+/// The word that is printed for a shape.
+fn shape_word(shape: Shape) -> &'static str
+    ensures { result.now ≡ shape_word shape }
+{
+    match shape {
+        Shape::Chain => "chain",
+        Shape::Star => "star",
+        Shape::Cycle => "cycle",
+        Shape::StarChain => "starchain",
+    }
+}
+
+/// The word that is printed for a class.
+fn class_word(class: Class) -> &'static str
+    ensures { result.now ≡ class_word class }
+{
+    match class {
+        Class::Constant => "constant",
+        Class::Linear => "linear",
+        Class::Quadratic => "quadratic",
+    }
 }
 
 /// The line of a side with too many stubs.
@@ -146,6 +196,20 @@ impl From<ConfigError> for Outcome {
         match error {
             ConfigError::Fault(fault) => Outcome::Config(fault),
             ConfigError::NoMemory => Outcome::NoMemory,
+        }
+    }
+}
+
+impl From<NoSuchQuery> for Outcome {
+    ghost use Rattle.gm_top.specs.Outcome.{missing_outcome};
+
+    ghost from_gives = { λ missing outcome. outcome ≡ missing_outcome missing };
+
+    fn from(missing: NoSuchQuery) -> Self {
+        Outcome::NoSuchQuery {
+            query: missing.query,
+            shape: missing.shape,
+            class: missing.class,
         }
     }
 }

@@ -5,7 +5,7 @@ ghost use Rattle.gm_top.specs.Command.{texts, AskForNone};
 ghost use Rattle.gm_top.specs.Outcome.{is_after_reading, is_refusal, is_of_bytes};
 ghost use Rattle.gm_top.specs.Outcome.{is_decision, is_of_input, is_of_writing};
 ghost use Rattle.gm_top.specs.Decision.{Decides};
-ghost use Rattle.gm_top.specs.Outputs.{IsAccepted, MakesFiles, MakesPart, TakesCalls, TakesCallsWithin};
+ghost use Rattle.gm_top.specs.Outputs.{outputs_of, IsAccepted, MakesFiles, MakesPart, TakesCalls, TakesCallsWithin};
 ghost use Rattle.gm_top.specs.Run.{IsReadWhole, IsTooLong, IsDecided, AnswersInput};
 ghost use Rattle.gm_top.specs.Run.{GainsFiles, GainsPart, GainsPartIfAny, GainsMeaning};
 ghost use Rattle.gm_top.specs.Run.{CallsForFiles, CallsForPart, CallsForPartIfAny};
@@ -43,7 +43,7 @@ pub fn run<S: Source, F: Folder>(
         → S.given source.new ≤ raised (S.given source.old) input_limit }
     ensures read_whole { IsTrue (is_after_reading result) → IsReadWhole (S.left source.old) (S.left source.new) }
 
-    // What is refused of the input: `Config`, `NotBuilt` and `TooManyStubs`, each by its cause.
+    // What is refused of the input: `Config`, `NotBuilt`, `NoSuchQuery` and `TooManyStubs`, each by its cause.
     ensures refused { IsTrue (is_of_bytes result) → IsDecided (texts words.now) (S.left source.old) (Err result) }
 
     // The files. After `Done` they are read back from the folder.
@@ -113,17 +113,17 @@ fn decided<S: Source>(alloc: Global, command: Command, source: &mut S) -> Result
 fn written<F: Folder>(alloc: Global, work: &Work, folder: &mut F) -> Result<(), Outcome>
     requires accepted { IsAccepted work.now }
     requires finished { F.unfinished folder.old ≡ false }
-    ensures files { OnOk result (MakesFiles work.now (F.files folder.old) (F.files folder.new)) }
+    ensures files { OnOk result (MakesFiles (outputs_of work.now) (F.files folder.old) (F.files folder.new)) }
     ensures finished { OnOk result (F.unfinished folder.new ≡ false) }
-    ensures part { OnErr result (MakesPart work.now (F.files folder.old) (F.files folder.new)) }
-    ensures calls { OnOk result (TakesCalls work.now (F.calls folder.old) (F.calls folder.new)) }
-    ensures part_calls { OnErr result (TakesCallsWithin work.now (F.calls folder.old) (F.calls folder.new)) }
+    ensures part { OnErr result (MakesPart (outputs_of work.now) (F.files folder.old) (F.files folder.new)) }
+    ensures calls { OnOk result (TakesCalls (outputs_of work.now) (F.calls folder.old) (F.calls folder.new)) }
+    ensures part_calls { OnErr result (TakesCallsWithin (outputs_of work.now) (F.calls folder.old) (F.calls folder.new)) }
     ensures stops { IfErr result (λ outcome. IsTrue (is_of_writing outcome)) }
     ensures fault { IsErrOf result Outcome.WriteFault → Rose (F.faults folder.old) (F.faults folder.new) }
     ensures faults { ¬ IsErrOf result Outcome.WriteFault → F.faults folder.new ≡ F.faults folder.old }
 {
     match work {
         Work::Query(label) => translating::written(alloc, label, folder),
-        Work::Graph { config, seed } => generating::written(alloc, config, *seed, folder),
+        Work::Files(generation) => generating::written(alloc, generation, folder),
     }
 }

@@ -7,7 +7,7 @@ ghost use Rattle.gm_top.specs.declared.commands.Command.TheVariants.{Translate};
 ghost use Rattle.gm_top.specs.declared.work.Work.TheVariants.{Query};
 ghost use Rattle.gm_top.specs.Outcome.{is_of_deciding, is_of_writing};
 ghost use Rattle.gm_top.specs.Decision.{IsDecision};
-ghost use Rattle.gm_top.specs.Outputs.{MakesFiles, MakesPart, TakesCalls, TakesCallsWithin};
+ghost use Rattle.gm_top.specs.Outputs.{outputs_of, MakesFiles, MakesPart, TakesCalls, TakesCallsWithin};
 
 use crate::outcomes::Outcome;
 use crate::work::Work;
@@ -34,11 +34,11 @@ pub(crate) fn written<F: Folder>(
     folder: &mut F,
 ) -> Result<(), Outcome>
     requires { F.unfinished folder.old ≡ false }
-    ensures files { OnOk result (MakesFiles (Query label.now) (F.files folder.old) (F.files folder.new)) }
+    ensures files { OnOk result (MakesFiles (outputs_of (Query label.now)) (F.files folder.old) (F.files folder.new)) }
     ensures finished { OnOk result (F.unfinished folder.new ≡ false) }
-    ensures part { OnErr result (MakesPart (Query label.now) (F.files folder.old) (F.files folder.new)) }
-    ensures calls { OnOk result (TakesCalls (Query label.now) (F.calls folder.old) (F.calls folder.new)) }
-    ensures part_calls { OnErr result (TakesCallsWithin (Query label.now) (F.calls folder.old) (F.calls folder.new)) }
+    ensures part { OnErr result (MakesPart (outputs_of (Query label.now)) (F.files folder.old) (F.files folder.new)) }
+    ensures calls { OnOk result (TakesCalls (outputs_of (Query label.now)) (F.calls folder.old) (F.calls folder.new)) }
+    ensures part_calls { OnErr result (TakesCallsWithin (outputs_of (Query label.now)) (F.calls folder.old) (F.calls folder.new)) }
     ensures stops { IfErr result (λ outcome. IsTrue (is_of_writing outcome)) }
     ensures fault { IsErrOf result Outcome.WriteFault → Rose (F.faults folder.old) (F.faults folder.new) }
     ensures faults { ¬ IsErrOf result Outcome.WriteFault → F.faults folder.new ≡ F.faults folder.old }

@@ -1,6 +1,6 @@
 //! What a command is to write.
 
-use gm_config::Config;
+use crate::generation::Generation;
 use workload_text::PlainName;
 
 /// What a command is to write, once nothing of its input is refused.
@@ -8,11 +8,6 @@ use workload_text::PlainName;
 pub enum Work {
     /// The text of the query for the edges of this label.
     Query(PlainName),
-    /// The graph of a configuration.
-    Graph {
-        /// The configuration, none of whose sides has too many stubs.
-        config: Config,
-        /// The seed of all draws.
-        seed: u64,
-    },
+    /// The files of a configuration, each of whose queries can be drawn and none of whose sides has too many stubs.
+    Files(Generation),
 }

@@ -1,4 +1,4 @@
-use Rattle.gm_top.proofs.DecisionLemmas.{IsDecision-unread, IsDecision-stubs, IsDecision-graph}
+use Rattle.gm_top.proofs.DecisionLemmas.{IsDecision-unread, IsDecision-refused, IsDecision-accepted, IsDecision-memory, stops-memory, stops-refusal}
 use Rattle.gm_top.proofs.generating.decided.Goals as goal
 
 pub returns-in_err-config-clause-decision : goal.returns-in_err-config-clause-decision
@@ -8,9 +8,19 @@ returns-in_err-config-clause-decision c =
 
 pub returns-in-Some-clause-decision : goal.returns-in-Some-clause-decision
 returns-in-Some-clause-decision c = λ _.
-    IsDecision-stubs c.args.seed c.args.bytes.now c.in_ok-config.config c.in-Some.over _ c.in_ok-config.ensures.ok
-    (rw c.in-Some.is at c.in_ok-over.ensures) c.from.ensures
+    IsDecision-refused c.args.seed c.args.bytes.now _ _ c.in-Some.refusal c.in_ok-config.ensures.ok c.in_ok-generation.ensures
+    (rw c.in-Some.is at c.in_ok-refusal.ensures)
 
 pub returns-in-None-clause-decision : goal.returns-in-None-clause-decision
 returns-in-None-clause-decision c = λ _.
-    IsDecision-graph c.args.seed c.args.bytes.now c.in_ok-config.config c.in_ok-config.ensures.ok (rw c.in-None.is at c.in_ok-over.ensures)
+    IsDecision-accepted c.args.seed c.args.bytes.now _ _ c.in_ok-config.ensures.ok c.in_ok-generation.ensures
+    (rw c.in-None.is at c.in_ok-refusal.ensures)
+
+pub returns-in_err-refusal-clause-decision : goal.returns-in_err-refusal-clause-decision
+returns-in_err-refusal-clause-decision c = IsDecision-memory c.from_residual-in_err-refusal.result c.from_residual-in_err-refusal.ensures.1
+
+pub returns-in_err-refusal-clause-stops : goal.returns-in_err-refusal-clause-stops
+returns-in_err-refusal-clause-stops c = stops-memory c.from_residual-in_err-refusal.result c.from_residual-in_err-refusal.ensures.1
+
+pub returns-in-Some-clause-stops : goal.returns-in-Some-clause-stops
+returns-in-Some-clause-stops c = stops-refusal _ c.in-Some.refusal (rw c.in-Some.is at c.in_ok-refusal.ensures)

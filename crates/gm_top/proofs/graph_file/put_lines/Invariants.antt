@@ -2,7 +2,7 @@ use Rattle.std.proofs.Common.{◌≡◌, length, List, ◌++◌, All, true}
 use Rattle.graph_text.specs.declared.graphs.Triple.{Triple}
 use Rattle.graph_text.specs.EdgesText.{IsInRange, edges_text}
 use Rattle.gm_top.specs.Putting.{Puts, CallsToPut}
-use Rattle.gm_top.proofs.generating.put_lines.Given as goal
+use Rattle.gm_top.proofs.graph_file.put_lines.Given as goal
 
 -- the lines of the edges so far were put, and no call failed
 abbrev pub invariant-loop-edge : goal.invariant-loop-edge

@@ -4,7 +4,7 @@ use Rattle.graph_text.specs.declared.graphs.Triple.{Triple}
 use Rattle.graph_text.specs.EdgesText.{IsInRange}
 use Rattle.gm_top.proofs.GraphLemmas.{OnErr-all}
 use Rattle.gm_top.proofs.PutLemmas.{Puts-none, Puts-edge, PutsPart-edge, CallsToPut-none, CallsToPut-edge, CallsToPut-within}
-use Rattle.gm_top.proofs.generating.put_lines.Goals as goal
+use Rattle.gm_top.proofs.graph_file.put_lines.Goals as goal
 
 pub loop-edge-init : goal.loop-edge-init
 loop-edge-init g c = record {

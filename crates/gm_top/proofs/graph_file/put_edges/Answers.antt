@@ -3,7 +3,7 @@ use Rattle.graph_text.specs.EdgesText.{edges_text}
 use Rattle.edge_match.proofs.EdgeLemmas.{AreEdgesOf-some}
 use Rattle.gm_top.proofs.GraphLemmas.{OnErr-all}
 use Rattle.gm_top.proofs.PutLemmas.{PutsPart-none}
-use Rattle.gm_top.proofs.generating.put_edges.Goals as goal
+use Rattle.gm_top.proofs.graph_file.put_edges.Goals as goal
 
 pub returns-in_err-edges-clause-part : goal.returns-in_err-edges-clause-part
 returns-in_err-edges-clause-part g c =

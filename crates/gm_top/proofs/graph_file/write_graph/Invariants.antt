@@ -3,7 +3,7 @@ use Rattle.gm_io.specs.Count.{raised}
 use Rattle.gm_io.specs.FileList.{Gained}
 use Rattle.gm_top.specs.Putting.{AreLinesBefore, CallsToPut}
 use Rattle.gm_top.proofs.GraphLemmas.{graph_file}
-use Rattle.gm_top.proofs.generating.written.Given as goal
+use Rattle.gm_top.proofs.graph_file.write_graph.Given as goal
 
 -- the file, and then what is kept, are the lines of the constraints so far, and no call failed
 abbrev pub invariant-loop-c : goal.invariant-loop-c

@@ -1,5 +1,0 @@
-use Rattle.gm_top.proofs.LawLemmas.{accepted_asks_for_its_graph}
-use Rattle.gm_top.proofs.laws.accepted_inputs_ask_for_graphs.Goals as goal
-
-pub returns : goal.returns
-returns c = accepted_asks_for_its_graph
