@@ -1,1 +1,7 @@
 pub mod Plain
+pub mod Values
+pub mod Lines
+pub mod Forms
+pub mod Sofar
+pub mod Rules
+pub mod Head

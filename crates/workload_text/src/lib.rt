@@ -1,8 +1,10 @@
-//! Workload texts: so far the plain form, one query over one label.
+//! Workload texts: a head and queries, written and read.
 #![tactic(auto)]
 
+mod fixed;
+mod head;
 mod plain;
-#[cfg(test)]
-mod tests;
+mod sorts;
 
+pub use head::WorkHead;
 pub use plain::{PlainName, PlainWork, read_plain};
