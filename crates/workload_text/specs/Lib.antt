@@ -5,3 +5,9 @@ pub mod Forms
 pub mod Sofar
 pub mod Rules
 pub mod Head
+pub mod View
+pub mod Front
+pub mod Union
+pub mod Heads
+pub mod State
+pub mod Reader

@@ -2,9 +2,20 @@
 #![tactic(auto)]
 
 mod fixed;
+mod front;
 mod head;
+mod heads;
+mod numbers;
+mod parts;
 mod plain;
+mod reader;
 mod sorts;
+mod state;
+mod unions;
+mod work;
+mod written;
 
 pub use head::WorkHead;
 pub use plain::{PlainName, PlainWork, read_plain};
+pub use reader::WorkloadError;
+pub use work::{Workload, read_workload};
