@@ -1,1 +1,13 @@
 pub mod Plain
+pub mod Values
+pub mod Lines
+pub mod Forms
+pub mod Sofar
+pub mod Rules
+pub mod Head
+pub mod View
+pub mod Front
+pub mod Union
+pub mod Heads
+pub mod State
+pub mod Reader

@@ -1,8 +1,21 @@
-//! Workload texts: so far the plain form, one query over one label.
+//! Workload texts: a head and queries, written and read.
 #![tactic(auto)]
 
+mod fixed;
+mod front;
+mod head;
+mod heads;
+mod numbers;
+mod parts;
 mod plain;
-#[cfg(test)]
-mod tests;
+mod reader;
+mod sorts;
+mod state;
+mod unions;
+mod work;
+mod written;
 
+pub use head::WorkHead;
 pub use plain::{PlainName, PlainWork, read_plain};
+pub use reader::WorkloadError;
+pub use work::{Workload, read_workload};

@@ -1,0 +1,5 @@
+use Rattle.workload_text.proofs.NumberLemmas.{number_is}
+use Rattle.workload_text.proofs.numbers.number_below.Goals as goal
+
+pub returns-in-Value : goal.returns-in-Value
+returns-in-Value c = rw (number_is c.args.word.now c.in-Value.n c.in-Value.ensures.value c.in-Value.ensures.fits) c.below.ensures

@@ -1,0 +1,228 @@
+//! The words of lines, and the parts of words.
+
+ghost use Rattle.std.specs.Prelude.{◌≡◌, ◌∷◌, [], None, position, option_map, MatchOption, IfNone};
+ghost use Rattle.std.specs.List.{slice_split, list_all};
+ghost use Rattle.gm_text.specs.Lines.{is_byte};
+ghost use Rattle.gm_text.specs.Decimal.{is_canonical};
+ghost use Rattle.workload_text.specs.View.{parts_left};
+ghost use Rattle.workload_text.specs.Forms.{one_word, two_words, four_words, is_variable, is_against, number_word, is_symbol_word, is_path_word, is_union_word, is_starred_word, within_star};
+
+use crate::sorts::begins_with_x;
+use gm_text::{Decimal, Words, read_decimal};
+use std::marker::Model;
+
+/// The parts of bytes between a separator, each taken once.
+#[derive(Drop)]
+pub(crate) struct Parts<'t> {
+    separator: u8,
+    rest: Option<&'t [u8]>,
+}
+
+impl<'t> Model for Parts<'t> {
+    ghost use Rattle.std.specs.Prelude.{List, ℕ, option_copied};
+    ghost use Rattle.workload_text.specs.View.{PartsValue};
+
+    ghost Value = { PartsValue };
+
+    ghost view = { λ parts. record { separator = parts.separator; rest = option_copied parts.rest } };
+}
+
+impl<'t> Parts<'t> {
+    /// All parts.
+    pub(crate) fn new(bytes: &'t [u8], separator: u8) -> Parts<'t>
+        ensures { parts_left result ≡ slice_split (is_byte separator) bytes.now }
+    {
+        Parts {
+            separator,
+            rest: Some(bytes),
+        }
+    }
+
+    /// Takes the next part, or `None` after the last one.
+    pub(crate) fn next_part(&mut self) -> Option<&'t [u8]>
+        ensures part { MatchOption result (parts_left self.old ≡ []) (λ part. parts_left self.old ≡ part.now ∷ parts_left self.new) }
+        ensures at_the_end { IfNone result (parts_left self.new ≡ []) }
+    {
+        let Some(bytes) = self.rest else {
+            return None;
+        };
+        match cut_at(bytes, self.separator) {
+            Some((part, rest)) => {
+                self.rest = Some(rest);
+                Some(part)
+            }
+            None => {
+                self.rest = None;
+                Some(bytes)
+            }
+        }
+    }
+}
+
+/// What stands before the first such byte, and what stands after it.
+fn cut_at(bytes: &[u8], end: u8) -> Option<(&[u8], &[u8])>
+    ensures { MatchOption result
+        (slice_split (is_byte end) bytes.now ≡ bytes.now ∷ [])
+        (λ cut. slice_split (is_byte end) bytes.now ≡ cut.0.now ∷ slice_split (is_byte end) cut.1.now) }
+{
+    let Some(place) = first_place(bytes, end) else {
+        return None;
+    };
+    Some((&bytes[..place], &bytes[place + 1..]))
+}
+
+/// The place of the first such byte.
+fn first_place(bytes: &[u8], sought: u8) -> Option<usize>
+    ensures { result ≡ position (is_byte sought) bytes.now }
+{
+    bytes.iter().position(|byte| *byte == sought)
+}
+
+/// The only word that is left.
+pub(crate) fn one_word<'t>(words: &mut Words<'t>) -> Option<&'t [u8]>
+    ensures { option_map (λ w. w.now) result ≡ one_word words.old }
+{
+    let Some(first) = words.next_word() else {
+        return None;
+    };
+    let Some(_next) = words.next_word() else {
+        return Some(first);
+    };
+    None
+}
+
+/// The two words that are left.
+pub(crate) fn two_words<'t>(words: &mut Words<'t>) -> Option<(&'t [u8], &'t [u8])>
+    ensures { option_map (λ w. (w.0.now, w.1.now)) result ≡ two_words words.old }
+{
+    let Some(first) = words.next_word() else {
+        return None;
+    };
+    let Some(second) = one_word(words) else {
+        return None;
+    };
+    Some((first, second))
+}
+
+/// Two words, of which others follow.
+fn next_two<'t>(words: &mut Words<'t>) -> Option<(&'t [u8], &'t [u8])>
+    ensures { MatchOption result (four_words words.old ≡ None) (λ w. words.old ≡ w.0.now ∷ w.1.now ∷ words.new) }
+{
+    let Some(first) = words.next_word() else {
+        return None;
+    };
+    let Some(second) = words.next_word() else {
+        return None;
+    };
+    Some((first, second))
+}
+
+/// The four words that are left.
+pub(crate) fn four_words<'t>(
+    words: &mut Words<'t>,
+) -> Option<((&'t [u8], &'t [u8]), (&'t [u8], &'t [u8]))>
+    ensures { option_map (λ w. ((w.0.0.now, w.0.1.now), (w.1.0.now, w.1.1.now))) result ≡ four_words words.old }
+{
+    let Some(front) = next_two(words) else {
+        return None;
+    };
+    let Some(back) = two_words(words) else {
+        return None;
+    };
+    Some((front, back))
+}
+
+/// Whether the word is a decimal with no leading zero, of any size.
+pub(crate) fn is_canonical(word: &[u8]) -> bool
+    ensures { result ≡ is_canonical word.now }
+{
+    !matches!(read_decimal(word), Decimal::No)
+}
+
+/// Whether the word is `x` and a canonical decimal.
+pub(crate) fn is_variable(word: &[u8]) -> bool
+    ensures { result ≡ is_variable word.now }
+{
+    begins_with_x(word) && is_canonical(&word[1..])
+}
+
+/// Whether the first byte is `^`.
+pub(crate) fn is_against(word: &[u8]) -> bool
+    ensures { result ≡ is_against word.now }
+{
+    match word.first() {
+        Some(byte) => *byte == b'^',
+        None => false,
+    }
+}
+
+/// What stands after `^`, or else the word.
+pub(crate) fn number_word(word: &[u8]) -> &[u8]
+    ensures { result.now ≡ number_word word.now }
+{
+    if is_against(word) { &word[1..] } else { word }
+}
+
+/// Whether the word is a symbol: a canonical decimal, or `^` and one.
+fn is_symbol_word(word: &[u8]) -> bool
+    ensures { result ≡ is_symbol_word word.now }
+{
+    is_canonical(number_word(word))
+}
+
+/// Whether the word is symbols joined by `.`.
+fn is_path_word(word: &[u8]) -> bool
+    ensures { result ≡ is_path_word word.now }
+{
+    let mut parts = Parts::new(word, b'.');
+    while let Some(part) = parts.next_part() {
+        if !is_symbol_word(part) {
+            return false;
+        }
+    }
+    true
+}
+
+/// Whether the word is symbols joined by `.`, and such words joined by `+`.
+pub(crate) fn is_union_word(word: &[u8]) -> bool
+    ensures { result ≡ is_union_word word.now }
+{
+    let mut parts = Parts::new(word, b'+');
+    while let Some(part) = parts.next_part() {
+        if !is_path_word(part) {
+            return false;
+        }
+    }
+    true
+}
+
+/// Whether the word begins with `(` and ends with `)*`.
+pub(crate) fn is_starred_word(word: &[u8]) -> bool
+    ensures { result ≡ is_starred_word word.now }
+{
+    let count = word.len();
+    count >= 3 && word[0] == b'(' && word[count - 2] == b')' && word[count - 1] == b'*'
+}
+
+/// What stands within `(` and `)*`, or else the word.
+pub(crate) fn within_star(word: &[u8]) -> &[u8]
+    ensures { result.now ≡ within_star word.now }
+{
+    if is_starred_word(word) {
+        &word[1..word.len() - 2]
+    } else {
+        word
+    }
+}
+
+/// Whether each word that is left is a variable.
+pub(crate) fn are_variables(words: &mut Words<'_>) -> bool
+    ensures { result ≡ list_all is_variable words.old }
+{
+    while let Some(word) = words.next_word() {
+        if !is_variable(word) {
+            return false;
+        }
+    }
+    true
+}
