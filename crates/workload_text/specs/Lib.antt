@@ -5,3 +5,4 @@ pub mod Forms
 pub mod Sofar
 pub mod Rules
 pub mod Head
+pub mod Writing

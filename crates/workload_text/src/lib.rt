@@ -5,6 +5,8 @@ mod fixed;
 mod head;
 mod plain;
 mod sorts;
+mod writing;
 
 pub use head::WorkHead;
 pub use plain::{PlainName, PlainWork, read_plain};
+pub use writing::{write_end, write_head, write_query};
