@@ -1,3 +1,4 @@
 pub mod NameLemmas
 pub mod HeadLemmas
 pub mod WritingLemmas
+pub mod LineLemmas

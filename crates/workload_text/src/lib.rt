@@ -3,6 +3,7 @@
 
 mod fixed;
 mod head;
+pub mod laws;
 mod plain;
 mod sorts;
 mod writing;

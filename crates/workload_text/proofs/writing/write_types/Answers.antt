@@ -1,4 +1,4 @@
-use Rattle.std.proofs.Common.{refl, sym}
+use Rattle.std.proofs.Common.{sym}
 use Rattle.graph_text.proofs.PartLemmas.{OnErr-from}
 use Rattle.sel_algebra.specs.declared.vocabulary.Kind.TheVariants.{Fixed}
 use Rattle.workload_text.specs.Lines.WorkLine.{TypeLine}
