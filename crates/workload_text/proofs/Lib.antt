@@ -5,3 +5,5 @@ pub mod UnionLemmas
 pub mod StateLemmas
 pub mod ReaderLemmas
 pub mod SoundLemmas
+pub mod WritingLemmas
+pub mod LineLemmas

@@ -11,3 +11,4 @@ pub mod Union
 pub mod Heads
 pub mod State
 pub mod Reader
+pub mod Writing
