@@ -1,0 +1,4 @@
+pub mod PathText
+pub mod QueryText
+pub mod Printed
+pub mod Laws

@@ -1,0 +1,4 @@
+//! Texts of queries in the subset of SPARQL that `sparql_read` reads, and of their paths.
+#![tactic(auto)]
+
+pub mod laws;
