@@ -7,3 +7,4 @@ pub mod NameLemmas
 pub mod FineLemmas
 pub mod HoldsLemmas
 pub mod ReadingLemmas
+pub mod TodoLemmas

@@ -2,3 +2,4 @@ pub mod PathText
 pub mod QueryText
 pub mod Printed
 pub mod Laws
+pub mod Todo
