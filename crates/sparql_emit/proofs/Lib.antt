@@ -8,3 +8,4 @@ pub mod FineLemmas
 pub mod HoldsLemmas
 pub mod ReadingLemmas
 pub mod TodoLemmas
+pub mod LineLemmas

@@ -3,3 +3,4 @@ pub mod QueryText
 pub mod Printed
 pub mod Laws
 pub mod Todo
+pub mod Lines

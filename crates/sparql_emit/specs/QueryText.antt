@@ -7,6 +7,7 @@
 -- Names of variables stand without their `?`.
 use Rattle.std.specs.Prelude.{ℕ, zero, suc, ◌+◌, ◌==◌, if◌then◌else◌, List, [], ◌∷◌, ◌++◌, map, codes, decimal}
 use Rattle.std.specs.List.{flat_map, join_by, range_with_len}
+use Rattle.path_pairs.specs.Trees.{Tree}
 use Rattle.query_terms.specs.Values.{ConjunctValue, RuleValue, QueryValue, arity_of}
 use Rattle.query_terms.specs.Laws.{tree_of_conjunct}
 use Rattle.sparql_emit.specs.PathText.{path_text_of}
@@ -37,11 +38,14 @@ abbrev pub heads_line : ℕ → List ℕ
 heads_line zero = codes "ASK WHERE {\n"
 heads_line (suc n) = codes "SELECT DISTINCT" ++ (flat_map with_mark (head_names (suc n)) ++ codes " WHERE {\n")
 
--- a conjunct: its path between its two variables, and a dot
+-- a path between two variables, and a dot
+abbrev pub pattern_text : List (List ℕ) → List ℕ → ℕ → ℕ → Tree → List ℕ
+pattern_text names heads u v path =
+    with_mark (variable_of heads u) ++ (codes " " ++ (path_text_of names path ++ (with_mark (variable_of heads v) ++ codes " .")))
+
+-- a conjunct of a rule with these heads
 abbrev pub conjunct_text : List (List ℕ) → List ℕ → List ℕ → ConjunctValue → List ℕ
-conjunct_text names labels heads c =
-    with_mark (variable_of heads c.src)
-    ++ (codes " " ++ (path_text_of names (tree_of_conjunct labels c) ++ (with_mark (variable_of heads c.trg) ++ codes " .")))
+conjunct_text names labels heads c = pattern_text names heads c.src c.trg (tree_of_conjunct labels c)
 
 -- the conjuncts of a rule between braces
 abbrev pub rule_line : List (List ℕ) → List ℕ → RuleValue → List ℕ

@@ -3,5 +3,7 @@
 
 pub mod laws;
 mod paths;
+mod queries;
 
 pub use paths::path_text;
+pub use queries::sparql_text;
