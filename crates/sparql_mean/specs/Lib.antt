@@ -1,0 +1,4 @@
+pub mod PathRows
+pub mod Mappings
+pub mod Rows
+pub mod Laws

@@ -1,0 +1,7 @@
+//! The laws of solutions. Each is the contract of a function that does nothing.
+ghost use Rattle.sparql_mean.specs.Laws.{SolutionsAreMappings};
+
+/// A solution of a group gives no variable two numbers.
+pub fn solutions_are_mappings()
+    ensures { SolutionsAreMappings }
+{}
