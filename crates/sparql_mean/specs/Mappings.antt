@@ -5,7 +5,7 @@
 --   AreCompatible m k   they agree on each variable of both
 --   IsJoin m k r        r is the union of both
 --   AreValues m xs row  the row has the numbers of the variables, in their order
-use Rattle.std.specs.Prelude.{◌≡◌, ◌⊎◌, ◌↔◌, ⊤, ⊥, ℕ, List, [], ◌∷◌, Contains}
+use Rattle.std.specs.Prelude.{◌≡◌, ◌⊎◌, ◌↔◌, ⊤, ℕ, List, [], ◌∷◌, Contains}
 
 -- variables with their numbers
 abbrev pub Mapping : Type 0
