@@ -17,12 +17,12 @@ use Rattle.query_terms.specs.Spans.{cut, covers, lies}
 use Rattle.query_terms.specs.Laws.{tree_of_conjunct}
 use Rattle.query_terms.specs.Numbering.{numbering}
 use Rattle.query_terms.specs.Trees.{tree_at}
-use Rattle.query_terms.proofs.SpanLemmas.{and_true}
+use Rattle.query_terms.proofs.SpanLemmas.{and_true, list_all_more}
 use Rattle.rpq_meaning.proofs.QueryLemmas.{cut-member, inside_all, tree_of_term}
 use Rattle.rpq_meaning.proofs.RowLemmas.{rules_fit}
 use Rattle.sparql_emit.specs.QueryText.{pattern_text, conjunct_text, rule_line}
 use Rattle.sparql_emit.specs.Laws.{has_names, conjunct_has_names}
-use Rattle.sparql_emit.specs.Lines.{FitsQuery, term_text, line_of, lines_of, term_has_names, line_has_names}
+use Rattle.sparql_emit.specs.Lines.{FitsQuery, term_text, line_of, lines_of, term_is_plain, line_is_plain}
 
 -- each part of a text is written behind the one before it
 pub three_written : (a b c : List ℕ) (one two three four : List ℕ) → one ≡ a → two ≡ one ++ b → three ≡ two ++ c → four ≡ three ++ codes "}\n"
@@ -66,9 +66,6 @@ module _ (names : List (List ℕ)) (labels : List ℕ) (symbols : List Symbol) (
     (keep : are_rules (length labels) (rules_in symbols words conjuncts rules) ≡ true)
     (terms_are : terms ≡ (numbering labels (rules_in symbols words conjuncts rules)).terms)
     (numbers_are : map (λ c. c.term) conjuncts ≡ (numbering labels (rules_in symbols words conjuncts rules)).numbers) where
-  value_of : Conjunct → ConjunctValue
-  value_of c = conjunct_in (words_in symbols words) c
-
   same_tree : (c : Conjunct) → Contains conjuncts c → tree_at terms c.term ≡ tree_of_conjunct labels (conjunct_in (words_in symbols words) c)
   same_tree c has = tree_of_term labels symbols words conjuncts rules terms cover keep terms_are numbers_are c has
 
@@ -85,19 +82,28 @@ module _ (names : List (List ℕ)) (labels : List ℕ) (symbols : List Symbol) (
       (λ i. join_by (λ r. line_same r i) (codes "UNION\n") rules)
       ∙ join_by-map (rule_line names labels) (codes "UNION\n") (rule_in (conjuncts_in symbols words conjuncts)) rules
 
-  line_named : (r : Rule) → line_has_names names terms conjuncts r ≡ true → list_all (conjunct_has_names names labels) (cut (conjuncts_in symbols words conjuncts) r.conjuncts) ≡ true
-  line_named r named =
-      ap (list_all (conjunct_has_names names labels)) (cut_map (conjunct_in (words_in symbols words)) conjuncts r.conjuncts)
-      ∙ (sym (list_all-same (term_has_names names terms) (conjunct_has_names names labels) (conjunct_in (words_in symbols words)) (cut conjuncts r.conjuncts)
-      (λ c has. ap (has_names names) (same_tree c (cut-member conjuncts r.conjuncts c has)))) ∙ named)
+  abbrev value_is_plain : ConjunctValue → Bool
+  value_is_plain v = conjunct_has_names names labels v && (nat_lt v.src 256 && nat_lt v.trg 256)
 
-  lines_named : (rs : List Rule) → list_all (line_has_names names terms conjuncts) rs ≡ true
-      → list_all (conjunct_has_names names labels) (conjuncts_of (map (rule_in (conjuncts_in symbols words conjuncts)) rs)) ≡ true
-  lines_named [] named = refl
-  lines_named (r ∷ rs) named =
-      let parts = and_parts (line_has_names names terms conjuncts r) (list_all (line_has_names names terms conjuncts) rs) named in
-      list_all-append (conjunct_has_names names labels) (cut (conjuncts_in symbols words conjuncts) r.conjuncts) (conjuncts_of (map (rule_in (conjuncts_in symbols words conjuncts)) rs))
-      ∙ and_true (line_named r parts.0) (lines_named rs parts.1)
+  line_plain : (r : Rule) → line_is_plain names terms conjuncts r ≡ true → list_all value_is_plain (cut (conjuncts_in symbols words conjuncts) r.conjuncts) ≡ true
+  line_plain r plain =
+      ap (list_all value_is_plain) (cut_map (conjunct_in (words_in symbols words)) conjuncts r.conjuncts)
+      ∙ (sym (list_all-same (term_is_plain names terms) value_is_plain (conjunct_in (words_in symbols words)) (cut conjuncts r.conjuncts)
+      (λ c has. ap (λ t. has_names names t && (nat_lt c.src 256 && nat_lt c.trg 256)) (same_tree c (cut-member conjuncts r.conjuncts c has)))) ∙ plain)
 
-  pub labels_named : list_all (line_has_names names terms conjuncts) rules ≡ true → list_all (conjunct_has_names names labels) (conjuncts_of (rules_in symbols words conjuncts rules)) ≡ true
-  labels_named named = lines_named rules named
+  lines_plain : (rs : List Rule) → list_all (line_is_plain names terms conjuncts) rs ≡ true → list_all value_is_plain (conjuncts_of (map (rule_in (conjuncts_in symbols words conjuncts)) rs)) ≡ true
+  lines_plain [] plain = refl
+  lines_plain (r ∷ rs) plain =
+      let parts = and_parts (line_is_plain names terms conjuncts r) (list_all (line_is_plain names terms conjuncts) rs) plain in
+      list_all-append value_is_plain (cut (conjuncts_in symbols words conjuncts) r.conjuncts) (conjuncts_of (map (rule_in (conjuncts_in symbols words conjuncts)) rs))
+      ∙ and_true (line_plain r parts.0) (lines_plain rs parts.1)
+
+  pub labels_named : list_all (line_is_plain names terms conjuncts) rules ≡ true → list_all (conjunct_has_names names labels) (conjuncts_of (rules_in symbols words conjuncts rules)) ≡ true
+  labels_named plain =
+      list_all_more value_is_plain (conjunct_has_names names labels) (conjuncts_of (rules_in symbols words conjuncts rules))
+      (λ v is. (and_parts (conjunct_has_names names labels v) _ is).0) (lines_plain rules plain)
+
+  pub variables_few : list_all (line_is_plain names terms conjuncts) rules ≡ true → list_all (λ v. nat_lt v.src 256 && nat_lt v.trg 256) (conjuncts_of (rules_in symbols words conjuncts rules)) ≡ true
+  variables_few plain =
+      list_all_more value_is_plain (λ v. nat_lt v.src 256 && nat_lt v.trg 256) (conjuncts_of (rules_in symbols words conjuncts rules))
+      (λ v is. (and_parts (conjunct_has_names names labels v) _ is).1) (lines_plain rules plain)

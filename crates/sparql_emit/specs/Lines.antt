@@ -2,8 +2,8 @@
 --   FitsQuery n r                      the rule's conjuncts are a part of n
 --   term_text names terms heads c      the text of a conjunct
 --   line_of, lines_of                  the line of a rule, and of rules
---   term_has_names, line_has_names     each label has a name
-use Rattle.std.specs.Prelude.{◌≡◌, ℕ, Bool, true, List, ◌++◌, codes}
+--   term_is_plain, line_is_plain       each label has a name, and the variables are bytes
+use Rattle.std.specs.Prelude.{◌≡◌, ℕ, Bool, true, ◌&&◌, nat_lt, List, ◌++◌, codes}
 use Rattle.std.specs.List.{flat_map, join_by, list_all}
 use Rattle.query_terms.specs.declared.terms.Term.{Term}
 use Rattle.query_terms.specs.declared.terms.Conjunct.{Conjunct}
@@ -23,17 +23,17 @@ pub record FitsQuery (n : ℕ) (r : Rule) : Type 0 where
 abbrev pub term_text : List (List ℕ) → List Term → List ℕ → Conjunct → List ℕ
 term_text names terms heads c = pattern_text names heads c.src c.trg (tree_at terms c.term)
 
--- each label of its term has a name
-abbrev pub term_has_names : List (List ℕ) → List Term → Conjunct → Bool
-term_has_names names terms c = has_names names (tree_at terms c.term)
+-- each label of its term has a name, and the numbers of its variables are those of bytes
+abbrev pub term_is_plain : List (List ℕ) → List Term → Conjunct → Bool
+term_is_plain names terms c = has_names names (tree_at terms c.term) && (nat_lt c.src 256 && nat_lt c.trg 256)
 
 -- the conjuncts of a rule between braces
 abbrev pub line_of : List (List ℕ) → List Term → List Conjunct → Rule → List ℕ
 line_of names terms conjuncts r = codes "{" ++ (flat_map (term_text names terms (heads_in r.heads)) (cut conjuncts r.conjuncts) ++ codes " }\n")
 
--- each label of a rule's terms has a name
-abbrev pub line_has_names : List (List ℕ) → List Term → List Conjunct → Rule → Bool
-line_has_names names terms conjuncts r = list_all (term_has_names names terms) (cut conjuncts r.conjuncts)
+-- so are the conjuncts of a rule
+abbrev pub line_is_plain : List (List ℕ) → List Term → List Conjunct → Rule → Bool
+line_is_plain names terms conjuncts r = list_all (term_is_plain names terms) (cut conjuncts r.conjuncts)
 
 -- the rules, with UNION between them
 abbrev pub lines_of : List (List ℕ) → List Term → List Conjunct → List Rule → List ℕ

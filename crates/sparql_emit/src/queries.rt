@@ -10,7 +10,7 @@ ghost use Rattle.sparql_read.specs.Text.{IsSparql, are_different};
 ghost use Rattle.sparql_emit.specs.QueryText.{head_name, variable_of, with_mark, heads_line, sparql_text_of};
 ghost use Rattle.sparql_emit.specs.Printed.{printed_of};
 ghost use Rattle.sparql_emit.specs.Laws.{has_label};
-ghost use Rattle.sparql_emit.specs.Lines.{FitsQuery, term_text, term_has_names, line_of, line_has_names, lines_of};
+ghost use Rattle.sparql_emit.specs.Lines.{FitsQuery, term_text, term_is_plain, line_of, line_is_plain, lines_of};
 
 use crate::paths::path_text;
 use gm_text::{Names, write_decimal};
@@ -78,7 +78,7 @@ fn write_rules(
     requires terms { All (λ c. c.term < length terms.now) conjuncts.now }
     requires rules { All (FitsQuery (length conjuncts.now)) rules.now }
     ensures text { OnOk result (out.new.items ≡ out.old.items ++ lines_of labels.now terms.now conjuncts.now rules.now) }
-    ensures names { OnOk result (list_all (line_has_names labels.now terms.now conjuncts.now) rules.now ≡ true) }
+    ensures plain { OnOk result (list_all (line_is_plain labels.now terms.now conjuncts.now) rules.now ≡ true) }
 {
     let [first, others @ ..] = rules else {
         return Ok(());
@@ -104,7 +104,7 @@ fn write_rule(
     requires terms { All (λ c. c.term < length terms.now) conjuncts.now }
     requires rule { FitsQuery (length conjuncts.now) rule.now }
     ensures text { OnOk result (out.new.items ≡ out.old.items ++ line_of labels.now terms.now conjuncts.now rule.now) }
-    ensures names { OnOk result (line_has_names labels.now terms.now conjuncts.now rule.now ≡ true) }
+    ensures plain { OnOk result (line_is_plain labels.now terms.now conjuncts.now rule.now ≡ true) }
 {
     let heads = &rule.heads.vars[..rule.heads.count as usize];
     out.push(b'{')?;
@@ -136,7 +136,7 @@ fn write_conjunct(
     requires labels { list_all (has_label (length labels.now)) terms.now ≡ true }
     requires term { conjunct.now.term < length terms.now }
     ensures text { OnOk result (out.new.items ≡ out.old.items ++ term_text labels.now terms.now heads.now conjunct.now) }
-    ensures names { OnOk result (term_has_names labels.now terms.now conjunct.now ≡ true) }
+    ensures plain { OnOk result (term_is_plain labels.now terms.now conjunct.now ≡ true) }
 {
     write_variable(alloc, out, heads, conjunct.src)?;
     out.push(b' ')?;

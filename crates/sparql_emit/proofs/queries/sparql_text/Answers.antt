@@ -31,6 +31,6 @@ pub returns-clause-reading : goal.returns-clause-reading
 returns-clause-reading c =
     let q = c.args.query.now in
     let named = labels_named c.args.labels.now q.labels.now q.symbols.now q.words.now q.conjuncts.now q.rules.now q.terms q.rules_cover q.rules_are q.terms_are q.numbers_are
-    c.in_ok-write_rules.ensures.names in
+    c.in_ok-write_rules.ensures.plain in
     subst (λ bytes. IsSparql bytes (printed_of c.args.labels.now (query_value q))) (sym (returns-clause-text c))
     (text_has_reading c.args.labels.now (query_value q) (record { rules_are = q.rules_are; labels_have_names = named }))
