@@ -1,6 +1,7 @@
 -- What is still to be written of a path's text, as a list of which the last is written first.
 --   is_alt_at, is_seq_at terms id    the term with a number is a choice, or a sequence
 --   nested needed id                 a term, in parentheses where they are needed
+--   signed id sign                   a term in parentheses, with a sign behind them
 --   parts terms t                    what the text of a term consists of
 --   todo_text names trees todo       the text of the list
 --   item_names names trees item      its label has a name, or each label of its path has
@@ -38,14 +39,18 @@ abbrev pub nested : Bool → ℕ → List Todo
 nested false id = todo.Path id ∷ []
 nested true id = todo.Byte 41 ∷ todo.Path id ∷ todo.Byte 40 ∷ []
 
+-- a term in parentheses, with a sign behind them
+abbrev pub signed : ℕ → ℕ → List Todo
+signed id sign = todo.Byte sign ∷ nested true id
+
 -- what the text of a term consists of, from its end
 abbrev pub parts : List Term → Term → List Todo
 parts terms (Step label false) = todo.Name label ∷ todo.Byte 58 ∷ []
 parts terms (Step label true) = todo.Name label ∷ todo.Byte 58 ∷ todo.Byte 94 ∷ []
 parts terms (Seq first second) = nested (is_alt_at terms second || is_seq_at terms second) second ++ (todo.Byte 47 ∷ nested (is_alt_at terms first) first)
 parts terms (Alt left right) = nested (is_alt_at terms right) right ++ (todo.Byte 124 ∷ todo.Path left ∷ [])
-parts terms (Star child) = todo.Byte 42 ∷ nested true child
-parts terms (Opt child) = todo.Byte 63 ∷ nested true child
+parts terms (Star child) = signed child 42
+parts terms (Opt child) = signed child 63
 
 abbrev pub item_text : List (List ℕ) → List Tree → Todo → List ℕ
 item_text names trees (todo.Byte byte) = byte ∷ []

@@ -6,7 +6,7 @@ ghost use Rattle.query_terms.specs.Store.{ChildrenBelow};
 ghost use Rattle.query_terms.specs.Trees.{tree_at};
 ghost use Rattle.sparql_emit.specs.PathText.{path_text_of};
 ghost use Rattle.sparql_emit.specs.Laws.{has_label, has_names};
-ghost use Rattle.sparql_emit.specs.Todo.{is_alt_at, is_seq_at, nested, parts};
+ghost use Rattle.sparql_emit.specs.Todo.{is_alt_at, is_seq_at, nested, signed, parts};
 
 use gm_text::Names;
 use query_terms::{Term, TermId, TermStore};
@@ -73,16 +73,18 @@ fn push_parts(todo: &mut Vec<Todo>, terms: &TermStore<'_>, term: Term) -> Result
             todo.push(Todo::Byte(b'|'))?;
             todo.push(Todo::Path(left))?;
         }
-        Term::Star(child) => {
-            todo.push(Todo::Byte(b'*'))?;
-            push_nested(todo, true, child)?;
-        }
-        Term::Opt(child) => {
-            todo.push(Todo::Byte(b'?'))?;
-            push_nested(todo, true, child)?;
-        }
+        Term::Star(child) => push_signed(todo, child, b'*')?,
+        Term::Opt(child) => push_signed(todo, child, b'?')?,
     }
     Ok(())
+}
+
+/// Adds a term in parentheses, with a sign behind them.
+fn push_signed(todo: &mut Vec<Todo>, id: TermId, sign: u8) -> Result<(), AllocError>
+    ensures { OnOk result (todo.new.items ≡ todo.old.items ++ signed id sign) }
+{
+    todo.push(Todo::Byte(sign))?;
+    push_nested(todo, true, id)
 }
 
 /// Adds a term, in parentheses where they are needed.
