@@ -10,3 +10,4 @@ pub mod ReadingLemmas
 pub mod TodoLemmas
 pub mod LineLemmas
 pub mod QueryLemmas
+pub mod ExampleLemmas

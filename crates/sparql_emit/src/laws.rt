@@ -1,5 +1,6 @@
 //! The laws of printed texts. Each is the contract of a function that does nothing.
 ghost use Rattle.sparql_emit.specs.Laws.{TextHasReading, VariablesDiffer};
+ghost use Rattle.sparql_emit.specs.Examples.{TextsOfPaths, TextsOfQueries};
 
 /// The text of a query asks what the query does.
 pub fn text_has_reading()
@@ -9,4 +10,10 @@ pub fn text_has_reading()
 /// Different variables of a rule have different names in its text.
 pub fn variables_differ()
     ensures { VariablesDiffer }
+{}
+
+/// The texts of some paths and queries.
+pub fn texts_of_examples()
+    ensures paths { TextsOfPaths }
+    ensures queries { TextsOfQueries }
 {}
