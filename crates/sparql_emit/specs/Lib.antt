@@ -1,0 +1,6 @@
+pub mod PathText
+pub mod QueryText
+pub mod Printed
+pub mod Laws
+pub mod Todo
+pub mod Lines

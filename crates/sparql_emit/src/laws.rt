@@ -1,0 +1,12 @@
+//! The laws of printed texts. Each is the contract of a function that does nothing.
+ghost use Rattle.sparql_emit.specs.Laws.{TextHasReading, VariablesDiffer};
+
+/// The text of a query asks what the query does.
+pub fn text_has_reading()
+    ensures { TextHasReading }
+{}
+
+/// Different variables of a rule have different names in its text.
+pub fn variables_differ()
+    ensures { VariablesDiffer }
+{}
