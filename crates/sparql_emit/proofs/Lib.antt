@@ -9,3 +9,4 @@ pub mod HoldsLemmas
 pub mod ReadingLemmas
 pub mod TodoLemmas
 pub mod LineLemmas
+pub mod RowLemmas

@@ -4,3 +4,4 @@ pub mod Printed
 pub mod Laws
 pub mod Todo
 pub mod Lines
+pub mod RowLaws
