@@ -7,7 +7,7 @@
 --   joins .., has_either ..   tests by lists
 --   rounds nodes step k       the pairs after k rounds of a repetition
 --   table_in tables n         the list at a place
-use Rattle.std.specs.Prelude.{◌≡◌, ◌↔◌, ℕ, zero, suc, Bool, true, ◌==◌, ◌&&◌, ◌||◌, if◌then◌else◌, List, [], ◌∷◌, Contains}
+use Rattle.std.specs.Prelude.{◌↔◌, ℕ, zero, suc, Bool, ◌==◌, ◌&&◌, ◌||◌, if◌then◌else◌, List, [], ◌∷◌, Contains}
 use Rattle.std.specs.List.{flat_map, list_any, slice_index_or}
 use Rattle.std.specs.List.Sorted.{IsStrictlySortedBy}
 use Rattle.std.specs.Ordering.{nat_cmp}

@@ -11,3 +11,4 @@ pub mod TodoLemmas
 pub mod LineLemmas
 pub mod QueryLemmas
 pub mod ExampleLemmas
+pub mod RowLemmas

@@ -5,3 +5,4 @@ pub mod Laws
 pub mod Todo
 pub mod Lines
 pub mod Examples
+pub mod RowLaws

@@ -10,6 +10,7 @@ ghost use Rattle.sparql_read.specs.Text.{IsSparql, are_different};
 ghost use Rattle.sparql_emit.specs.QueryText.{head_name, variable_of, with_mark, heads_line, sparql_text_of};
 ghost use Rattle.sparql_emit.specs.Printed.{printed_of};
 ghost use Rattle.sparql_emit.specs.Laws.{has_label};
+ghost use Rattle.sparql_emit.specs.RowLaws.{HasQueryRows};
 ghost use Rattle.sparql_emit.specs.Lines.{FitsQuery, term_text, term_is_plain, line_of, line_is_plain, lines_of};
 
 use crate::paths::path_text;
@@ -17,7 +18,8 @@ use gm_text::{Names, write_decimal};
 use query_terms::{Conjunct, Heads, Query, Rule, Span, TermStore};
 use std::alloc::{AllocError, Global};
 
-/// The text of a query, whose labels have these names. It has a reading, which asks what the query does.
+/// The text of a query, whose labels have these names. It has a reading, and over every graph the rows of what is read
+/// are the query's rows.
 ///
 /// It fails only where memory runs out.
 pub fn sparql_text(alloc: Global, query: &Query<'_>, labels: &Names) -> Result<Vec<u8>, AllocError>
@@ -25,6 +27,7 @@ pub fn sparql_text(alloc: Global, query: &Query<'_>, labels: &Names) -> Result<V
     requires names { are_different labels.now ≡ true }
     ensures text { IfOk result (λ text. text.items ≡ sparql_text_of labels.now (query_value query.now)) }
     ensures reading { IfOk result (λ text. IsSparql text.items (printed_of labels.now (query_value query.now))) }
+    ensures rows { OnOk result (HasQueryRows labels.now (query_value query.now)) }
 {
     let mut out = Vec::new(alloc);
     out.extend_from_slice(b"PREFIX : <http://gmark.example/>\n")?;

@@ -1,6 +1,6 @@
 -- Growing mappings by the pairs of patterns gives exactly the solutions of a group.
-use Rattle.std.proofs.Common.{◌≡◌, ◌<◌, ◌+◌, ◌⊎◌, ◌↔◌, inl, inr, ℕ, zero, suc, Bool, true, false, not, ◌==◌, ◌&&◌, ◌||◌, if◌then◌else◌, Option, Some, None, unwrap_or, List, [], ◌∷◌, ◌++◌, map, fold, length, take, drop, bytes_eq, refl, sym, ap, subst, ◌∙◌, arith}
-use Rattle.std.specs.List.{Contains, flat_map, list_all}
+use Rattle.std.proofs.Common.{◌≡◌, ◌+◌, ◌⊎◌, ◌↔◌, inl, inr, ℕ, Bool, true, false, not, ◌==◌, ◌&&◌, if◌then◌else◌, Option, Some, None, unwrap_or, List, [], ◌∷◌, ◌++◌, fold, length, take, drop, bytes_eq, refl, sym, ap, subst, ◌∙◌}
+use Rattle.std.specs.List.{Contains, flat_map}
 use Rattle.std.specs.Option.{option_to_list}
 use Rattle.std.proofs.lemmas.Bool.{and_parts, and_from, or_cases, or_left, or_right, eqb-true, eq-eqb, cases_Bool, both_ways}
 use Rattle.std.proofs.lemmas.List.{drop-drop}
@@ -13,22 +13,22 @@ use Rattle.sparql_read.specs.Grammar.{Pattern, Asked}
 use Rattle.sparql_read.specs.Layout.{Entry, Lists, flat, spans, entries, all_nodes, laid_out}
 use Rattle.sparql_mean.specs.Mappings.{Mapping, IsMapping, AreCompatible, IsJoin, AreValues}
 use Rattle.sparql_mean.specs.Rows.{IsSolution, IsGroupSolution, IsSparqlRow}
-use Rattle.sparql_mean.specs.Joins.{agrees, fits, fits_pair, with_pair, if_fits, grown, grow, mappings, value, before, values, row_of, patterns_of, group_rows, rows_of}
+use Rattle.sparql_mean.specs.Joins.{agrees, fits, fits_pair, with_pair, if_fits, grown, grow, mappings, value, before, values, row_of, group_rows, rows_of}
 use Rattle.sparql_mean.specs.Tables.{tables_of}
-use Rattle.sparql_mean.proofs.PathLemmas.{IsFor, AreFor, tables_say}
+use Rattle.sparql_mean.proofs.PathLemmas.{AreFor, tables_say}
 
 some_same : {X : Type 0} (x y : X) → Some x ≡ Some y → x ≡ y
 some_same x y same = ap (λ o. unwrap_or o x) same
 
 -- ---- solutions give each variable one number
 
-abbrev two : List ℕ → List ℕ → ℕ → ℕ → Mapping
+abbrev pub two : List ℕ → List ℕ → ℕ → ℕ → Mapping
 two u v a b = (u, a) ∷ (v, b) ∷ []
 
-abbrev IsFirst : List ℕ → ℕ → List ℕ → ℕ → Type 0
+abbrev pub IsFirst : List ℕ → ℕ → List ℕ → ℕ → Type 0
 IsFirst u a x n = (u ≡ x) × (a ≡ n)
 
-two-cases : (u v x : List ℕ) (a b n : ℕ) → Contains (two u v a b) (x, n) → IsFirst u a x n ⊎ IsFirst v b x n
+pub two-cases : (u v x : List ℕ) (a b n : ℕ) → Contains (two u v a b) (x, n) → IsFirst u a x n ⊎ IsFirst v b x n
 two-cases u v x a b n has =
     elim (Contains-cases (u, a) (x, n) ((v, b) ∷ []) has) [
       | inl same ↦ inl (ap (λ e. e.0) same, ap (λ e. e.1) same)
@@ -135,7 +135,7 @@ grow-from tables e ms k has =
 
 -- ---- joins
 
-join-append : (m k : Mapping) → IsJoin m k (m ++ k)
+pub join-append : (m k : Mapping) → IsJoin m k (m ++ k)
 join-append m k e = (λ has. Contains-append_cases m k e has, λ h. elim h [ inl one ↦ Contains-append_left m k e one | inr other ↦ Contains-append_right m k e other ])
 
 -- a join with a join
@@ -270,7 +270,7 @@ value-has (e ∷ m) x n has =
           | inr later ↦ rest later
         ]
 
-value-one : (m : Mapping) (x : List ℕ) (n : ℕ) → IsMapping m → Contains m (x, n) → value m x ≡ Some n
+pub value-one : (m : Mapping) (x : List ℕ) (n : ℕ) → IsMapping m → Contains m (x, n) → value m x ≡ Some n
 value-one m x n is has = let found = value-has m x n has in found.1 ∙ ap (λ k. Some k) (is x found.0 n (value-is m x found.0 found.1) has)
 
 before-parts : (o : Option ℕ) (ns : Option (List ℕ)) (row : List ℕ) → before o ns ≡ Some row → (n : ℕ) × (rest : List ℕ) × (o ≡ Some n) × (ns ≡ Some rest) × (row ≡ n ∷ rest)

@@ -1,6 +1,5 @@
 -- The lists of paths have exactly the paths' pairs.
-use Rattle.std.proofs.Common.{◌≡◌, ◌<◌, ◌+◌, ◌⊎◌, inl, inr, ℕ, zero, suc, Bool, true, false, ◌==◌, ◌&&◌, Option, Some, None, List, [], ◌∷◌, ◌++◌, length, fold, slice_get, bytes_eq, refl, sym, ap, subst, ◌∙◌, arith}
-use Rattle.std.specs.List.{Contains, list_any}
+use Rattle.std.proofs.Common.{◌≡◌, ◌<◌, ◌+◌, inl, inr, ℕ, zero, suc, true, ◌==◌, ◌&&◌, Option, Some, None, List, [], ◌∷◌, ◌++◌, length, fold, slice_get, refl, sym, ap, subst, ◌∙◌, arith}
 use Rattle.std.proofs.lemmas.Bool.{and_parts, and_from, eqb-true, eq-eqb}
 use Rattle.std.proofs.lemmas.List.{get_or_push, get_or_append_left, length-append}
 use Rattle.std.proofs.lemmas.List.Sums.{fold_push, fold-append}
@@ -8,9 +7,9 @@ use Rattle.std.proofs.lemmas.Slice.Eq.{bytes_eq-Decides}
 use Rattle.graph_text.specs.declared.graphs.Triple.{Triple}
 use Rattle.graph_text.specs.Graph.{IsNode}
 use Rattle.graph_text.proofs.MemberLemmas.{list_any-Contains, Contains-list_any}
-use Rattle.path_pairs.specs.Rounds.{Visited, IsVisited, node_count}
+use Rattle.path_pairs.specs.Rounds.{Visited, node_count}
 use Rattle.path_pairs.proofs.StarLemmas.{Chain-from_Visited, Visited-from_Chain}
-use Rattle.node_tables.specs.Tables.{IsTable, RelatesNodes, AreNodes, select, joins, has_either, has_or_same, rounds, table_in}
+use Rattle.node_tables.specs.Tables.{IsTable, RelatesNodes, AreNodes, select, joins, rounds, table_in}
 use Rattle.node_tables.proofs.TableLemmas.{has-Contains, Contains-has, select_table, seq_table, alt_table, opt_table, star_table}
 use Rattle.sparql_read.specs.Grammar.{Path, Pattern, Iri, Inverse, Seq, Alt, Star, Plus, Opt}
 use Rattle.sparql_read.specs.Layout as laid

@@ -1,4 +1,4 @@
-use Rattle.std.proofs.Common.{◌≡◌, ℕ, Some, slice_get, take, drop}
+use Rattle.std.proofs.Common.{◌≡◌, Some, slice_get, take, drop}
 use Rattle.gm_text.specs.declared.lists.Span.{Span}
 use Rattle.sparql_mean.specs.Joins.{mappings}
 use Rattle.sparql_mean.proofs.queries.mappings.Given as goal
