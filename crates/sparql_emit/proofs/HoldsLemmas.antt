@@ -1,12 +1,12 @@
 -- What a printed text asks keeps the conditions of texts: its heads are few and differ, and each is in every group.
-use Rattle.std.proofs.Common.{◌≡◌, ℕ, zero, suc, ◌+◌, ◌≤◌, Bool, true, false, ◌==◌, ◌||◌, ◌&&◌, nat_le, if◌then◌else◌, List, [], ◌∷◌, length, map, refl, sym, ap, subst, ◌∙◌, arith}
+use Rattle.std.proofs.Common.{◌≡◌, ℕ, zero, suc, ◌+◌, Bool, true, false, ◌==◌, ◌||◌, ◌&&◌, nat_le, if◌then◌else◌, List, [], ◌∷◌, length, map, refl, sym, ap, subst, ◌∙◌, arith}
 use Rattle.std.specs.Prelude.{⊤, not, bytes_eq}
 use Rattle.std.specs.Fmt.{digits}
 use Rattle.std.specs.List.{list_all, list_any, range_with_len}
-use Rattle.std.proofs.lemmas.Bool.{and_parts, or_parts, eqb-true, eq-eqb, leb-true, cases_Bool}
+use Rattle.std.proofs.lemmas.Bool.{and_parts, or_parts, eqb-true, eq-eqb, leb-true}
 use Rattle.std.proofs.lemmas.List.FromFn.{length-map-range_with_len}
 use Rattle.std.proofs.lemmas.Slice.Eq.{bytes_eq-Decides}
-use Rattle.query_terms.specs.Values.{ConjunctValue, RuleValue, QueryValue, occurs, differ, arity_built, arity_of, is_conjunct, has_heads, is_rule, have_heads, are_rules}
+use Rattle.query_terms.specs.Values.{ConjunctValue, RuleValue, QueryValue, occurs, differ, arity_built, arity_of, has_heads, is_rule, have_heads, are_rules}
 use Rattle.query_terms.proofs.SpanLemmas.{and_true}
 use Rattle.sparql_read.specs.Text.{heads_most, occurs_in, are_different, has_all, holds}
 use Rattle.sparql_emit.specs.QueryText.{head_name, head_names, variable_from, variable_of}

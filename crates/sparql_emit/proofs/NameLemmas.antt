@@ -1,13 +1,13 @@
 -- Names of variables: they are letters and digits, and two variables of a rule have different ones.
-use Rattle.std.proofs.Common.{◌≡◌, ℕ, zero, suc, ◌+◌, ◌<◌, ◌/◌, ◌%◌, ◌^◌, Bool, true, false, ◌==◌, ◌&&◌, nat_lt, if◌then◌else◌, List, [], ◌∷◌, ◌++◌, codes, length, decimal, drop, get_or, refl, sym, ap, ◌∙◌, arith}
+use Rattle.std.proofs.Common.{◌≡◌, ℕ, zero, suc, ◌+◌, ◌<◌, ◌/◌, ◌%◌, ◌^◌, Bool, true, false, ◌==◌, if◌then◌else◌, List, [], ◌∷◌, length, decimal, drop, get_or, refl, sym, ap, ◌∙◌, arith}
 use Rattle.std.specs.Fmt.{digits, digits_onto, digit_glyph}
 use Rattle.std.specs.List.{list_all}
-use Rattle.std.proofs.lemmas.Bool.{and_parts, eqb-true, lt-ltb}
+use Rattle.std.proofs.lemmas.Bool.{eqb-true, lt-ltb}
 use Rattle.std.proofs.lemmas.Bool.Decides.{nat_tests}
 use Rattle.std.proofs.lemmas.Fmt.{decimal_injective}
 use Rattle.gm_text.specs.Name.{is_name_byte}
 use Rattle.query_terms.proofs.SpanLemmas.{and_true}
-use Rattle.sparql_emit.specs.QueryText.{head_name, variable_from, variable_of}
+use Rattle.sparql_emit.specs.QueryText.{head_name, variable_from}
 use Rattle.sparql_emit.specs.Laws.{VariablesDiffer}
 use Rattle.sparql_emit.proofs.Spelling.{is_variable}
 

@@ -1,12 +1,12 @@
 -- The text of a path is spelled of its pieces, whose tokens are read as the path.
-use Rattle.std.proofs.Common.{◌≡◌, ℕ, Bool, true, false, ◌||◌, List, [], ◌∷◌, ◌++◌, codes, refl, sym, ap, ◌∙◌}
+use Rattle.std.proofs.Common.{◌≡◌, ℕ, Bool, true, false, ◌||◌, List, ◌∷◌, ◌++◌, codes, refl, ap, ◌∙◌}
 use Rattle.std.proofs.lemmas.List.{append_assoc}
 use Rattle.path_pairs.specs.Trees.{Tree}
 use Rattle.path_pairs.specs.Trees.Tree.{Step, Seq, Alt, Star, Opt}
 use Rattle.token_text.specs.Spelled.{spelled, lexemes, Lexeme}
 use Rattle.sparql_read.specs.Tokens.{Token, Open, Close, Slash, Bar, Asterisk, Question}
 use Rattle.sparql_read.specs.Grammar.{Path, IsPath, IsSeq, IsElt, one_seq, more_alt, one_elt, more_seq, plain, inverse, bare, star, opt, predicate, nested}
-use Rattle.sparql_emit.specs.PathText.{name_of, in_parentheses, is_alt, is_seq, path_text_of}
+use Rattle.sparql_emit.specs.PathText.{in_parentheses, is_alt, is_seq, path_text_of}
 use Rattle.sparql_emit.specs.Printed.{path_of}
 use Rattle.sparql_emit.proofs.Spelling.{spell, Pieces}
 use Rattle.sparql_emit.proofs.Pieces.{nested_pieces, path_pieces}

@@ -11,7 +11,7 @@ use Rattle.sel_algebra.specs.declared.vocabulary.Symbol.{Symbol}
 use Rattle.query_terms.specs.declared.terms.Term.{Term}
 use Rattle.query_terms.specs.declared.terms.Conjunct.{Conjunct}
 use Rattle.query_terms.specs.declared.terms.Rule.{Rule}
-use Rattle.query_terms.specs.Values.{ConjunctValue, RuleValue, conjuncts_of, are_rules, arity_of}
+use Rattle.query_terms.specs.Values.{ConjunctValue, conjuncts_of, are_rules}
 use Rattle.query_terms.specs.Lists.{words_in, heads_in, is_heads, conjunct_in, conjuncts_in, rule_in, rules_in}
 use Rattle.query_terms.specs.Spans.{cut, covers, lies}
 use Rattle.query_terms.specs.Laws.{tree_of_conjunct}

@@ -1,5 +1,5 @@
 -- The printed text of a query asks what the query does.
-use Rattle.std.proofs.Common.{List, [], sym, subst}
+use Rattle.std.proofs.Common.{[], sym, subst}
 use Rattle.token_text.proofs.SpelledLemmas.{HasTokens-spelled}
 use Rattle.token_text.specs.Spelled.{lexemes}
 use Rattle.token_text.specs.Tokens.{HasTokens}

@@ -1,5 +1,5 @@
 -- What is spelled of a token, before what it may precede, is cut off as that token.
-use Rattle.std.proofs.Common.{◌≡◌, ℕ, Bool, true, false, ◌||◌, ◌&&◌, ◌==◌, List, [], ◌∷◌, ◌++◌, Some, None, codes, refl, sym, ap, ◌∙◌, if◌then◌else◌, length, nat_le, arith}
+use Rattle.std.proofs.Common.{◌≡◌, ℕ, Bool, true, false, ◌||◌, ◌&&◌, ◌==◌, List, [], ◌∷◌, ◌++◌, Some, codes, refl, ap, ◌∙◌, arith}
 use Rattle.std.specs.Prelude.{not}
 use Rattle.std.specs.List.{list_all}
 use Rattle.std.specs.Char.{is_ascii_alphabetic}
@@ -10,7 +10,7 @@ use Rattle.gm_text.specs.Name.{is_name_byte, is_name}
 use Rattle.token_text.specs.Spelled.{Cuts, CutsOff}
 use Rattle.sparql_read.specs.Tokens.{Token, Word, Mark, IriRef, Predicate, Variable, LeftBrace, RightBrace, Open, Close, Dot, Slash, Bar, Caret, Asterisk, PlusSign, Question}
 use Rattle.sparql_read.specs.Tokens.{Keyword, Prefix, Select, Distinct, Ask, Where, Union, is_iri_byte, is_white, run_of, behind_run, first}
-use Rattle.sparql_read.specs.Tokens.{Front, keyword_of, keyword_token, keyword_front, letter_front, mark_front, variable_front, iri_front, front_of}
+use Rattle.sparql_read.specs.Tokens.{keyword_of, keyword_token, keyword_front, letter_front, mark_front, variable_front, iri_front, front_of}
 use Rattle.sparql_emit.proofs.Spelling.{spell, spell_word, stops, is_of_word, is_empty, is_variable, may_precede}
 
 not_true : (a : Bool) → not a ≡ true → a ≡ false

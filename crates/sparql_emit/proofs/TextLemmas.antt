@@ -1,5 +1,5 @@
 -- The text of a query is spelled of its pieces, whose tokens are read as what the query asks.
-use Rattle.std.proofs.Common.{◌≡◌, ℕ, zero, suc, Bool, true, false, ◌<◌, List, [], ◌∷◌, ◌++◌, codes, map, refl, sym, ap, ◌∙◌, length, nat_lt, arith}
+use Rattle.std.proofs.Common.{◌≡◌, ℕ, zero, suc, true, List, [], ◌∷◌, ◌++◌, codes, map, refl, ap, ◌∙◌, length, nat_lt, arith}
 use Rattle.std.specs.List.{flat_map, join_by, list_all}
 use Rattle.std.proofs.lemmas.Bool.{and_parts, ltb-true}
 use Rattle.std.proofs.lemmas.List.{append_assoc}
@@ -7,12 +7,12 @@ use Rattle.query_terms.specs.Values.{ConjunctValue, RuleValue, QueryValue, arity
 use Rattle.query_terms.specs.Laws.{tree_of_conjunct}
 use Rattle.token_text.specs.Spelled.{lexemes, Gap, Lexeme}
 use Rattle.sparql_read.specs.Tokens.{Token, Word, Mark, IriRef, Variable, LeftBrace, RightBrace, Dot, Prefix, Select, Distinct, Where}
-use Rattle.sparql_read.specs.Grammar.{Path, IsTriple, triple, IsTriples, dotted, more_triples, IsGroup, group, IsGroups, one_group, more_groups, IsBody, groups, variables_then, heads_then, IsText}
+use Rattle.sparql_read.specs.Grammar.{IsTriple, triple, IsTriples, dotted, more_triples, IsGroup, group, IsGroups, one_group, more_groups, IsBody, groups, variables_then, heads_then, IsText}
 use Rattle.sparql_emit.specs.PathText.{path_text_of}
 use Rattle.sparql_emit.specs.QueryText.{variable_of, head_names, with_mark, heads_line, conjunct_text, rule_line, sparql_text_of}
 use Rattle.sparql_emit.specs.Printed.{pattern_of, group_of, printed_of}
 use Rattle.sparql_emit.proofs.Spelling.{Pieces}
-use Rattle.sparql_emit.proofs.Pieces.{path_pieces, variable_pieces, conjunct_pieces, conjuncts_pieces, rule_pieces, more_pieces, rules_pieces, variables_pieces, where_pieces, heads_pieces, end_pieces, text_pieces}
+use Rattle.sparql_emit.proofs.Pieces.{variable_pieces, conjunct_pieces, conjuncts_pieces, rule_pieces, more_pieces, rules_pieces, variables_pieces, where_pieces, heads_pieces, end_pieces, text_pieces}
 use Rattle.sparql_emit.proofs.PathLemmas.{text, spells_path, reads_path}
 
 -- ---- spelled

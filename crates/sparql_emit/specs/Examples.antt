@@ -4,8 +4,6 @@
 use Rattle.std.specs.Prelude.{◌≡◌, ℕ, true, false, None, List, [], ◌∷◌, codes}
 use Rattle.path_pairs.specs.Trees.{Tree}
 use Rattle.path_pairs.specs.Trees.Tree.{Step, Seq, Alt, Star, Opt}
-use Rattle.sel_algebra.specs.declared.vocabulary.Symbol.{Symbol}
-use Rattle.sel_algebra.specs.declared.vocabulary.Shape.{Shape}
 use Rattle.sel_algebra.specs.declared.vocabulary.Shape.TheVariants.{Chain}
 use Rattle.query_terms.specs.Values.{ConjunctValue, RuleValue, QueryValue}
 use Rattle.sparql_emit.specs.PathText.{path_text_of}

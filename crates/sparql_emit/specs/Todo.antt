@@ -7,7 +7,7 @@
 --   item_names names trees item      its label has a name, or each label of its path has
 --   item_fits labels terms item      its number is that of a label or a term
 --   todo_weight trees todo           how much there is to do
-use Rattle.std.specs.Prelude.{ℕ, ◌+◌, Bool, true, false, ◌||◌, ◌&&◌, nat_lt, Option, None, Some, List, [], ◌∷◌, ◌++◌, length, slice_get}
+use Rattle.std.specs.Prelude.{ℕ, ◌+◌, Bool, true, false, ◌||◌, nat_lt, Option, Some, List, [], ◌∷◌, ◌++◌, slice_get}
 use Rattle.gm_text.specs.Name.{is_name}
 use Rattle.path_pairs.specs.Trees.{Tree}
 use Rattle.query_terms.specs.declared.terms.Term.{Term}
