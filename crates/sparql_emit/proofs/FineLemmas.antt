@@ -18,7 +18,8 @@ use Rattle.sparql_emit.specs.PathText.{name_of, is_alt, is_seq}
 use Rattle.sparql_emit.specs.QueryText.{head_name, head_names, variable_of}
 use Rattle.sparql_emit.specs.Laws.{has_names, conjunct_has_names}
 use Rattle.sparql_emit.proofs.Spelling.{spell, may_precede, stops, is_variable, Pieces}
-use Rattle.sparql_emit.proofs.Pieces.{nested_pieces, path_pieces, variable_pieces, conjunct_pieces, conjuncts_pieces, rule_pieces, more_pieces, rules_pieces, variables_pieces, where_pieces, heads_pieces, end_pieces, text_pieces}
+use Rattle.sparql_emit.proofs.Pieces.{nested_pieces, path_pieces, variable_pieces, conjunct_pieces, conjuncts_pieces, rule_pieces, more_pieces}
+use Rattle.sparql_emit.proofs.Pieces.{rules_pieces, variables_pieces, where_pieces, heads_pieces, end_pieces, text_pieces}
 use Rattle.sparql_emit.proofs.PathLemmas.{text}
 use Rattle.sparql_emit.proofs.NameLemmas.{head_is_variable, variable_is_variable}
 

@@ -22,6 +22,7 @@ use Rattle.rpq_meaning.proofs.QueryLemmas.{cut-member, inside_all, tree_of_term}
 use Rattle.rpq_meaning.proofs.RowLemmas.{rules_fit}
 use Rattle.sparql_emit.specs.QueryText.{pattern_text, conjunct_text, rule_line}
 use Rattle.sparql_emit.specs.Laws.{has_names, conjunct_has_names}
+use Rattle.sparql_emit.specs.RowLaws.{has_few_variables}
 use Rattle.sparql_emit.specs.Lines.{FitsQuery, term_text, line_of, lines_of, term_is_plain, line_is_plain}
 
 -- each part of a text is written behind the one before it
@@ -83,7 +84,7 @@ module _ (names : List (List ℕ)) (labels : List ℕ) (symbols : List Symbol) (
       ∙ join_by-map (rule_line names labels) (codes "UNION\n") (rule_in (conjuncts_in symbols words conjuncts)) rules
 
   abbrev value_is_plain : ConjunctValue → Bool
-  value_is_plain v = conjunct_has_names names labels v && (nat_lt v.src 256 && nat_lt v.trg 256)
+  value_is_plain v = conjunct_has_names names labels v && has_few_variables v
 
   line_plain : (r : Rule) → line_is_plain names terms conjuncts r ≡ true → list_all value_is_plain (cut (conjuncts_in symbols words conjuncts) r.conjuncts) ≡ true
   line_plain r plain =
@@ -103,7 +104,7 @@ module _ (names : List (List ℕ)) (labels : List ℕ) (symbols : List Symbol) (
       list_all_more value_is_plain (conjunct_has_names names labels) (conjuncts_of (rules_in symbols words conjuncts rules))
       (λ v is. (and_parts (conjunct_has_names names labels v) _ is).0) (lines_plain rules plain)
 
-  pub variables_few : list_all (line_is_plain names terms conjuncts) rules ≡ true → list_all (λ v. nat_lt v.src 256 && nat_lt v.trg 256) (conjuncts_of (rules_in symbols words conjuncts rules)) ≡ true
+  pub variables_few : list_all (line_is_plain names terms conjuncts) rules ≡ true → list_all has_few_variables (conjuncts_of (rules_in symbols words conjuncts rules)) ≡ true
   variables_few plain =
-      list_all_more value_is_plain (λ v. nat_lt v.src 256 && nat_lt v.trg 256) (conjuncts_of (rules_in symbols words conjuncts rules))
+      list_all_more value_is_plain has_few_variables (conjuncts_of (rules_in symbols words conjuncts rules))
       (λ v is. (and_parts (conjunct_has_names names labels v) _ is).1) (lines_plain rules plain)

@@ -1,6 +1,7 @@
 -- What the text of a query asks has the query's rows: its paths have the pairs of the trees, and the joins of mappings
 -- are numbers for the variables of a rule.
-use Rattle.std.proofs.Common.{◌≡◌, ◌<◌, ◌≤◌, ◌+◌, ◌↔◌, inl, inr, ℕ, zero, suc, Bool, true, false, not, ◌==◌, ◌&&◌, ◌||◌, nat_lt, if◌then◌else◌, Some, unwrap_or, List, [], ◌∷◌, ◌++◌, map, length, slice_get, bytes_eq, refl, sym, ap, subst, ◌∙◌, arith}
+use Rattle.std.proofs.Common.{◌≡◌, ◌<◌, ◌≤◌, ◌+◌, ◌↔◌, inl, inr, ℕ, zero, suc, Bool, true, false, not, ◌==◌, ◌&&◌, ◌||◌, nat_lt}
+use Rattle.std.proofs.Common.{if◌then◌else◌, Some, unwrap_or, List, [], ◌∷◌, ◌++◌, map, length, slice_get, bytes_eq, refl, sym, ap, subst, ◌∙◌, arith}
 use Rattle.std.specs.List.{Contains, list_all, list_any, range_with_len, AllByRecursion}
 use Rattle.std.proofs.lemmas.Bool.{and_parts, or_cases, or_parts, eqb-true, eq-eqb, both_ways, cases_lt}
 use Rattle.std.proofs.lemmas.Bool.Decides.{nat_tests}
@@ -9,7 +10,8 @@ use Rattle.std.proofs.lemmas.Option.{slice_get-get_or}
 use Rattle.std.proofs.lemmas.Slice.Eq.{bytes_eq-Decides}
 use Rattle.gm_text.specs.Name.{is_name}
 use Rattle.graph_text.specs.declared.graphs.Triple.{Triple}
-use Rattle.graph_text.proofs.MemberLemmas.{Contains-first, Contains-later, Contains-none, Contains-append_cases, Contains-append_left, Contains-append_right, Contains-map, Contains-from_map, Contains-flat_map, list_all-member, list_all-from_members}
+use Rattle.graph_text.proofs.MemberLemmas.{Contains-first, Contains-later, Contains-none, Contains-append_cases, Contains-append_left, Contains-append_right}
+use Rattle.graph_text.proofs.MemberLemmas.{Contains-map, Contains-from_map, Contains-flat_map, list_all-member, list_all-from_members}
 use Rattle.path_pairs.specs.Trees.{Tree}
 use Rattle.path_pairs.specs.Trees.Tree.{Step, Seq, Alt, Star, Opt}
 use Rattle.path_pairs.specs.Pairs.{Pairs}

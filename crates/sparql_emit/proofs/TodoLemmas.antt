@@ -223,7 +223,8 @@ module _ (names : List (List ℕ)) (terms : List Term) (store : IsStore terms) (
             ∙ and_true both.0 (and_true (ap (has_names names) same ∙ parts_names names terms store t both.1) refl)));
         fit = ap (list_all fits) now_is
             ∙ (list_all-append fits before (parts terms t)
-            ∙ and_true (and_parts (list_all fits before) _ (sym (list_all-append fits before (todo.Path id ∷ [])) ∙ (ap (list_all fits) (sym is) ∙ w.fit))).0 (parts_fit names terms store t (list_all-get (has_label (length names)) terms id t labelled at) below));
+            ∙ and_true (and_parts (list_all fits before) _ (sym (list_all-append fits before (todo.Path id ∷ [])) ∙ (ap (list_all fits) (sym is) ∙ w.fit))).0
+            (parts_fit names terms store t (list_all-get (has_label (length names)) terms id t labelled at) below));
       }
 
 -- ---- each step of it leaves less to do
