@@ -23,7 +23,9 @@ enum Todo {
     Path(TermId),
 }
 
-/// Appends the text of a term's path, whose labels have these names.
+/// Appends the text of a term's path. Each label of the store's terms has one of these names.
+///
+/// It fails only where memory runs out, and then a part of the text may have been appended.
 pub fn path_text(
     alloc: Global,
     out: &mut Vec<u8>,

@@ -1,9 +1,8 @@
 //! The text of a query.
 
-ghost use Rattle.std.specs.Prelude.{◌≡◌, ◌<◌, ◌++◌, true, codes, length, position, IfOk, OnOk};
-ghost use Rattle.std.specs.List.{All, flat_map, join_by, list_all};
+ghost use Rattle.std.specs.Prelude.{◌≡◌, ◌<◌, ◌++◌, true, length, position, IfOk, OnOk};
+ghost use Rattle.std.specs.List.{All, list_all};
 ghost use Rattle.gm_text.specs.Lines.{is_byte};
-ghost use Rattle.query_terms.specs.Lists.{heads_in, is_heads};
 ghost use Rattle.query_terms.specs.Spans.{cut, lies};
 ghost use Rattle.query_terms.specs.View.{query_value};
 ghost use Rattle.sparql_read.specs.Text.{IsSparql, are_different};
@@ -15,13 +14,13 @@ ghost use Rattle.sparql_emit.specs.Lines.{FitsQuery, term_text, term_is_plain, l
 
 use crate::paths::path_text;
 use gm_text::{Names, write_decimal};
-use query_terms::{Conjunct, Heads, Query, Rule, Span, TermStore};
+use query_terms::{Conjunct, Query, Rule, Span, TermStore};
 use std::alloc::{AllocError, Global};
 
 /// The text of a query, whose labels have these names. It has a reading, and over every graph the rows of what is read
 /// are the query's rows.
 ///
-/// It fails only where memory runs out.
+/// The names differ, and each label of the query's terms has one. It fails only where memory runs out.
 pub fn sparql_text(alloc: Global, query: &Query<'_>, labels: &Names) -> Result<Vec<u8>, AllocError>
     requires labels { list_all (has_label (length labels.now)) query.now.terms ≡ true }
     requires names { are_different labels.now ≡ true }
