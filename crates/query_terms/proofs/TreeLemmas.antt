@@ -54,7 +54,7 @@ tree_of-same S T n (Star a) below same = ap Tree.Star (same a below)
 tree_of-same S T n (Opt a) below same = ap Tree.Opt (same a below)
 
 -- a term that is in the store has the tree of its children's trees
-tree_at-is : (before after : List Term) (term : Term) → ChildrenBelow (length before) term
+pub tree_at-is : (before after : List Term) (term : Term) → ChildrenBelow (length before) term
     → tree_at (before ++ term ∷ after) (length before) ≡ tree_of (trees_of (before ++ term ∷ after)) term
 tree_at-is before after term below =
     let all : before ++ term ∷ after ≡ (before ++ term ∷ []) ++ after = sym (append_assoc before (term ∷ []) after) in

@@ -1,6 +1,6 @@
 //! What a text of the SPARQL subset asks.
 
-ghost use Rattle.std.specs.Prelude.{◌≡◌, ◌<◌, length, slice_get, Some, IfOk, IfSome};
+ghost use Rattle.std.specs.Prelude.{◌≡◌, ◌<◌, ◌≤◌, length, slice_get, Some, IfOk, IfSome};
 ghost use Rattle.sparql_read.specs.Query.{node_view, entry_view, AreFew, HasPattern};
 ghost use Rattle.sparql_read.specs.Reader.{parts_view};
 
@@ -60,7 +60,8 @@ impl<'a> SparqlQuery<'a> {
 
     /// The number of selected variables, 0 to 4; none for ASK.
     pub fn variable_count(&self) -> u8
-        ensures { result ≡ length self.now.variables }
+        ensures count { result ≡ length self.now.variables }
+        ensures few { length self.now.variables ≤ 4 }
     {
         self.variables.len() as u8
     }

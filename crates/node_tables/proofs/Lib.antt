@@ -1,0 +1,3 @@
+pub mod SelectLemmas
+pub mod NodeLemmas
+pub mod TableLemmas

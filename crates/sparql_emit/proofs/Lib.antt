@@ -1,0 +1,14 @@
+pub mod Spelling
+pub mod SpellingLemmas
+pub mod Pieces
+pub mod PathLemmas
+pub mod TextLemmas
+pub mod NameLemmas
+pub mod FineLemmas
+pub mod HoldsLemmas
+pub mod ReadingLemmas
+pub mod TodoLemmas
+pub mod LineLemmas
+pub mod QueryLemmas
+pub mod ExampleLemmas
+pub mod RowLemmas

@@ -1,0 +1,8 @@
+pub mod PathText
+pub mod QueryText
+pub mod Printed
+pub mod Laws
+pub mod Todo
+pub mod Lines
+pub mod Examples
+pub mod RowLaws
