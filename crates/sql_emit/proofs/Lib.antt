@@ -6,3 +6,4 @@ pub mod TextLemmas
 pub mod HoldsLemmas
 pub mod GoodLemmas
 pub mod ReadingLemmas
+pub mod WriteLemmas

@@ -2,3 +2,4 @@ pub mod Rules
 pub mod Reading
 pub mod Text
 pub mod Laws
+pub mod Writing

@@ -19,10 +19,14 @@ use Rattle.sql_emit.specs.Reading.{table_name, rule_query}
 abbrev pub nodes_line : List ℕ
 nodes_line = codes "nodes(v) AS (SELECT e.src FROM edge AS e UNION SELECT e.trg FROM edge AS e)"
 
+-- the edges of a label, along them or back on them, before the label
+abbrev pub steps_text : Bool → List ℕ
+steps_text false = codes "SELECT e.src, e.trg FROM edge AS e WHERE e.label = "
+steps_text true = codes "SELECT e.trg, e.src FROM edge AS e WHERE e.label = "
+
 -- the selects of term k
 abbrev pub body_text : ℕ → Term → List ℕ
-body_text k (Step l false) = codes "SELECT e.src, e.trg FROM edge AS e WHERE e.label = " ++ decimal l
-body_text k (Step l true) = codes "SELECT e.trg, e.src FROM edge AS e WHERE e.label = " ++ decimal l
+body_text k (Step l back) = steps_text back ++ decimal l
 body_text k (Seq i j) = codes "SELECT a.src, b.trg FROM " ++ (table_name i ++ (codes " AS a, " ++ (table_name j ++ codes " AS b WHERE a.trg = b.src")))
 body_text k (Alt i j) = codes "SELECT a.src, a.trg FROM " ++ (table_name i ++ (codes " AS a UNION SELECT b.src, b.trg FROM " ++ (table_name j ++ codes " AS b")))
 body_text k (Star i) =
