@@ -7,3 +7,4 @@ pub mod HoldsLemmas
 pub mod GoodLemmas
 pub mod ReadingLemmas
 pub mod WriteLemmas
+pub mod QueryLemmas

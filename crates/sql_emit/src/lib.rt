@@ -5,9 +5,11 @@ mod columns;
 pub mod laws;
 mod links;
 mod names;
+mod query;
 mod rules;
 mod tables;
 mod text;
 
 pub use links::{HeadVars, Link, LinkRule, LinkRules, Links};
+pub use query::sql_text;
 pub use text::links_text;
