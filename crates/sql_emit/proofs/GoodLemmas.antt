@@ -1,21 +1,21 @@
 -- What the text of terms and rules is to say has lists where the grammar wants some, words and numbers that fit.
-use Rattle.std.proofs.Common.{◌≡◌, ℕ, ◌+◌, ◌<◌, ◌≤◌, ◌^◌, Bool, true, false, ◌&&◌, nat_lt, List, [], ◌∷◌, length, map, codes, refl, sym, ap, ◌∙◌, subst, arith, zero, suc}
+use Rattle.std.proofs.Common.{◌≡◌, ℕ, ◌+◌, ◌<◌, ◌^◌, true, false, nat_lt, List, [], ◌∷◌, length, map, codes, refl, subst, arith}
 use Rattle.std.specs.List.{list_all}
 use Rattle.std.proofs.lemmas.Bool.{and_parts}
-use Rattle.std.proofs.lemmas.Bool.Decides.{nat_tests}
 use Rattle.query_terms.specs.declared.terms.Term.{Term}
 use Rattle.query_terms.specs.declared.terms.Term.TheVariants.{Step, Seq, Alt, Star, Opt}
-use Rattle.query_terms.specs.Store.{IsStore, ChildrenBelow, with_numbers}
-use Rattle.sql_read.specs.Tokens.{is_word, keyword_of}
-use Rattle.sql_read.specs.Grammar.{Col, Query, Table, Reading, some, is_full_query, is_full_union, is_full_table, is_full}
+use Rattle.query_terms.specs.Store.{ChildrenBelow, with_numbers}
+use Rattle.sql_read.specs.Tokens.{keyword_of}
+use Rattle.sql_read.specs.Grammar.{some, is_full_query, is_full_table, is_full}
 use Rattle.sql_emit.specs.declared.links.Link.{Link}
 use Rattle.sql_emit.specs.declared.links.LinkRule.{LinkRule}
 use Rattle.sql_emit.specs.Rules.{is_link_rule}
-use Rattle.sql_emit.specs.Reading.{table_name, alias_name, col, nodes_table, term_table, occurrences_from, sources_from, rule_query, printed_of}
+use Rattle.sql_emit.specs.Reading.{alias_name, col, nodes_table, term_table, occurrences_from, sources_from, rule_query, printed_of}
 use Rattle.sql_emit.specs.Laws.{label_fits, has_few_links, ArePrintable}
 use Rattle.sql_emit.proofs.SpellingLemmas.{table_is_word, alias_is_word}
 use Rattle.sql_emit.proofs.PieceLemmas.{good_col, good_source, good_right, good_query, good_table, good_reading}
-use Rattle.sql_emit.proofs.HoldsLemmas.{RuleParts, rule_parts, RulesParts, rules_parts, AliasesPass, occurrences_pass, heads_pass, equations_pass, heads_found, ChildrenAre, children_more, child_first, lt_true}
+use Rattle.sql_emit.proofs.HoldsLemmas.{RuleParts, rule_parts, rules_parts, AliasesPass, occurrences_pass, heads_pass, equations_pass, heads_found, ChildrenAre, children_more, child_first}
+use Rattle.sql_emit.proofs.HoldsLemmas.{lt_true}
 
 -- ---- lists that are not empty
 
@@ -91,8 +91,11 @@ rule_good terms r few counted parts =
     let occurrences = occurrences_from 0 r.links in
     let ends : AliasesPass good_col 0 (length r.links) = λ j from to. end_good j (omega (arith, to, counted)) in
     let pass = occurrences_pass good_col r.links 0 ends in
-    rw (heads_pass good_col occurrences r.heads pass (heads_found r.links r.heads parts.heads), sources_good terms r.links 0 few (omega (arith, counted)) parts.below,
-      equations_pass good_col good_right (λ c. refl) [] occurrences refl pass) refl
+    rw (
+      heads_pass good_col occurrences r.heads pass (heads_found r.links r.heads parts.heads),
+      sources_good terms r.links 0 few (omega (arith, counted)) parts.below,
+      equations_pass good_col good_right (λ c. refl) [] occurrences refl pass,
+    ) refl
 
 rules_good : (terms : ℕ) (rules : List LinkRule) → terms < 2 ^ 64 → list_all (is_link_rule terms) rules ≡ true → list_all has_few_links rules ≡ true
     → list_all good_query (map rule_query rules) ≡ true

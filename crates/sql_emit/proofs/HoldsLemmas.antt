@@ -1,7 +1,8 @@
 -- What the text of terms and rules is to say meets the conditions of texts.
-use Rattle.std.proofs.Common.{◌≡◌, ◌≢◌, ℕ, zero, suc, ◌+◌, ◌<◌, ◌≤◌, ◌^◌, Bool, true, false, ◌&&◌, ◌||◌, nat_lt, Option, Some, None, if◌then◌else◌, List, [], ◌∷◌, ◌++◌, length, map, codes, decimal, refl, sym, ap, subst, ◌∙◌, inl, inr, arith}
-use Rattle.std.specs.Prelude.{is_some, is_none, bytes_eq, unwrap_or, slice_get, ◌==◌, nat_le}
-use Rattle.std.specs.List.{list_all, list_any}
+use Rattle.std.proofs.Common.{◌≡◌, ◌≢◌, ℕ, suc, ◌+◌, ◌<◌, ◌≤◌, ◌^◌, Bool, true, false, ◌&&◌, ◌||◌, nat_lt, Option, Some, None, if◌then◌else◌, List, [], ◌∷◌, ◌++◌, length, map, codes}
+use Rattle.std.proofs.Common.{decimal, refl, sym, ap, subst, ◌∙◌, inl, inr, arith}
+use Rattle.std.specs.Prelude.{is_some, bytes_eq, unwrap_or, slice_get, ◌==◌, nat_le}
+use Rattle.std.specs.List.{list_all}
 use Rattle.std.proofs.lemmas.Bool.{and_parts, cases_lt}
 use Rattle.std.proofs.lemmas.Bool.Decides.{nat_tests}
 use Rattle.std.proofs.lemmas.Fmt.{decimal_injective}
@@ -11,12 +12,14 @@ use Rattle.std.proofs.lemmas.Slice.Eq.{bytes_eq-Decides}
 use Rattle.query_terms.specs.declared.terms.Term.{Term}
 use Rattle.query_terms.specs.declared.terms.Term.TheVariants.{Step, Seq, Alt, Star, Opt}
 use Rattle.query_terms.specs.Store.{ChildrenBelow, with_numbers}
-use Rattle.sql_read.specs.Grammar.{Col, Right, Column, Value, Equation, Source, Query, Table, Reading}
-use Rattle.sql_read.specs.Conditions.{Header, edge_header, header_of, is_among, all_differ, columns_of, columns_under, belongs, right_belongs, equation_belongs, is_there, alias_of, query_holds, has_width, table_holds, tables_hold, headers_after, width_of, last_hold, holds}
+use Rattle.sql_read.specs.Grammar.{Col, Right, Column, Equation}
+use Rattle.sql_read.specs.Conditions.{Header, edge_header, header_of, is_among, all_differ, columns_of, columns_under, belongs, right_belongs, is_there, alias_of, query_holds, has_width}
+use Rattle.sql_read.specs.Conditions.{table_holds, tables_hold, headers_after, width_of, holds}
 use Rattle.sql_emit.specs.declared.links.Link.{Link}
 use Rattle.sql_emit.specs.declared.links.LinkRule.{LinkRule}
 use Rattle.sql_emit.specs.Rules.{occurs, is_link_rule, has_heads, heads_of, are_link_rules}
-use Rattle.sql_emit.specs.Reading.{table_name, alias_name, col, source, equal, nodes_table, term_table, Occurrence, occurrences_from, first_of, head_column, equation_for, equations_from, sources_from, rule_query, printed_of}
+use Rattle.sql_emit.specs.Reading.{table_name, alias_name, col, nodes_table, term_table, Occurrence, occurrences_from, first_of, head_column, equation_for, equations_from, sources_from}
+use Rattle.sql_emit.specs.Reading.{rule_query, printed_of}
 use Rattle.sql_emit.specs.Laws.{has_few_links, ArePrintable}
 use Rattle.sql_emit.proofs.SpellingLemmas.{list_all_weaker}
 
@@ -62,7 +65,7 @@ sees_more n headers t few s = record {
   edge = s.edge;
   nodes = s.nodes;
   terms = λ j below. elim (cases_lt j n) [
-    inl less ↦ rw (numbered_differ 116 n j (omega (arith, few)) (omega (arith, few, less)) (above j n less)) (s.terms j less)
+    | inl less ↦ rw (numbered_differ 116 n j (omega (arith, few)) (omega (arith, few, less)) (above j n less)) (s.terms j less)
     | inr more ↦ (let same : n ≡ j = omega (arith, below, more) in rw (ap (λ i. bytes_eq (table_name n) (table_name i)) (sym same) ∙ same_bytes (table_name n)) refl)
   ];
   others = λ j above_n small. rw (numbered_differ 116 n j (omega (arith, few)) small (below_not n j (omega (arith, above_n)))) (s.others j (omega (arith, above_n)) small);
@@ -144,10 +147,10 @@ module _ (terms : ℕ) (headers : List Header) (s : Sees terms headers) where
   under_alias (l ∷ links) i j below from to few =
       let parts = and_parts (nat_lt l.term terms) (list_all (λ m. nat_lt m.term terms) links) below in
       elim (cases_lt i j) [
-        inl less ↦ rw (numbered_differ 99 i j (omega (arith, few)) (omega (arith, few, to)) (below_not i j less))
-          (under_alias links (i + 1) j parts.1 (omega (arith, less)) (omega (arith, to)) (omega (arith, few)))
+        | inl less ↦ rw (numbered_differ 99 i j (omega (arith, few)) (omega (arith, few, to)) (below_not i j less))
+            (under_alias links (i + 1) j parts.1 (omega (arith, less)) (omega (arith, to)) (omega (arith, few)))
         | inr same ↦ (let is : j ≡ i = omega (arith, from, same) in
-          rw (ap (λ m. bytes_eq (alias_name i) (alias_name m)) is ∙ same_bytes (alias_name i)) (s.terms l.term (lt_true l.term terms parts.0)))
+            rw (ap (λ m. bytes_eq (alias_name i) (alias_name m)) is ∙ same_bytes (alias_name i)) (s.terms l.term (lt_true l.term terms parts.0)))
       ]
 
 -- what each column of an occurrence passes, the columns of the heads and of the equations pass
@@ -202,8 +205,10 @@ module _ (passes : Col → Bool) where
     equations_pass before (o ∷ os) earlier all =
         let parts = and_parts (passes o.at) (all_pass os) all in
         let now : all_pass (before ++ o ∷ []) ≡ true = rw (list_all-append (λ x. passes x.at) before (o ∷ []), earlier, parts.0) refl in
-        rw (list_all-append equation_passes (equation_for (first_of before o.variable) o.at) (equations_from (before ++ o ∷ []) os),
-          equation_for_passes (first_of before o.variable) o.at (first_passes before o.variable earlier) parts.0)
+        rw (
+          list_all-append equation_passes (equation_for (first_of before o.variable) o.at) (equations_from (before ++ o ∷ []) os),
+          equation_for_passes (first_of before o.variable) o.at (first_passes before o.variable earlier) parts.0,
+        )
         (equations_pass (before ++ o ∷ []) os now parts.1)
 
 -- a variable that occurs in the links has a first occurrence
@@ -213,6 +218,7 @@ found_first (l ∷ links) i v found = either (l.src == v) (l.trg == v) found (fo
   where
     later : Option Col
     later = first_of (occurrences_from (i + 1) links) v
+
     either : (a b : Bool) → ((a || b) || occurs links v) ≡ true → (occurs links v ≡ true → is_some later ≡ true)
         → is_some (if a then Some (col (alias_name i) (codes "src")) else if b then Some (col (alias_name i) (codes "trg")) else later) ≡ true
     either true b e more = refl
@@ -246,9 +252,12 @@ module _ (terms : ℕ) (headers : List Header) (s : Sees terms headers) where
       let sources = sources_from 0 r.links in
       let occurrences = occurrences_from 0 r.links in
       let pass = occurrences_pass (belongs headers sources) r.links 0 (aliases_belong r parts few) in
-      rw (aliases_differ r.links 0 (omega (arith, few)), sources_there terms headers s r.links 0 parts.below,
+      rw (
+        aliases_differ r.links 0 (omega (arith, few)),
+        sources_there terms headers s r.links 0 parts.below,
         heads_pass (belongs headers sources) occurrences r.heads pass (heads_found r.links r.heads parts.heads),
-        equations_pass (belongs headers sources) (right_belongs headers sources) (λ c. refl) [] occurrences refl pass) refl
+        equations_pass (belongs headers sources) (right_belongs headers sources) (λ c. refl) [] occurrences refl pass,
+      ) refl
 
   rules_hold : (rules : List LinkRule) → list_all (is_link_rule terms) rules ≡ true → list_all has_few_links rules ≡ true
       → list_all (query_holds headers) (map rule_query rules) ≡ true
@@ -281,7 +290,7 @@ pub record RulesParts (terms : ℕ) (rules : List LinkRule) : Type 0 where
 pub rules_parts : (terms : ℕ) (rules : List LinkRule) → are_link_rules terms rules ≡ true → RulesParts terms rules
 rules_parts terms rules e =
     let outer = and_parts (nat_lt 0 (length rules) && list_all (is_link_rule terms) rules)
-        (nat_le (heads_of rules) 4 && list_all (has_heads (heads_of rules)) rules) e in
+    (nat_le (heads_of rules) 4 && list_all (has_heads (heads_of rules)) rules) e in
     let left = and_parts (nat_lt 0 (length rules)) (list_all (is_link_rule terms) rules) outer.0 in
     let right = and_parts (nat_le (heads_of rules) 4) (list_all (has_heads (heads_of rules)) rules) outer.1 in
     record { some = left.0; are = left.1; few_heads = right.0; same_heads = right.1 }

@@ -2,14 +2,15 @@
 use Rattle.std.proofs.Common.{◌≡◌, ℕ, ◌^◌, Bool, true, false, ◌&&◌, nat_lt, List, [], ◌∷◌, refl, ap, ◌∙◌, arith, ◌||◌}
 use Rattle.std.specs.List.{list_all}
 use Rattle.std.proofs.lemmas.Bool.{and_parts}
-use Rattle.token_text.specs.Spelled.{Piece, Gap, Lexeme, lexemes}
+use Rattle.token_text.specs.Spelled.{Gap, Lexeme, lexemes}
 use Rattle.sql_read.specs.declared.tokens.Mark.{Mark}
 use Rattle.sql_read.specs.declared.tokens.Mark.TheVariants.{With, Recursive, As, Select, Distinct, From, Where, And, Union, Open, Close, Comma, Dot, Equals}
 use Rattle.sql_read.specs.Tokens.{Token, Fixed, Word, Number, is_word, is_blank}
-use Rattle.sql_read.specs.Grammar.{Col, Right, Column, Value, Equation, Source, Query, Table, Reading, repeated, listed, word_then, col_then, source_then, right_then, equation_then, columns_then, where_then, from_then, query_then, union_then, body_then, table_then, tokens_of_text, said}
+use Rattle.sql_read.specs.Grammar.{Col, Right, Column, Value, Equation, Source, Query, Table, Reading, repeated, listed, word_then, col_then, source_then, right_then, equation_then}
+use Rattle.sql_read.specs.Grammar.{columns_then, where_then, from_then, query_then, union_then, table_then, tokens_of_text, said}
 use Rattle.sql_emit.proofs.Spelling.{Pieces, text, AreApart, ends_run, is_sign}
-use Rattle.sql_emit.proofs.SpellingLemmas.{list_all_weaker}
-use Rattle.sql_emit.proofs.Pieces.{spaced, comma_space, comma_line, union_line, repeated_pieces, listed_pieces, word_pieces, col_pieces, source_pieces, right_pieces, equation_pieces, columns_pieces, where_pieces, distinct_pieces, from_pieces, query_pieces, body_pieces, table_pieces, last_pieces, pieces_of}
+use Rattle.sql_emit.proofs.Pieces.{spaced, comma_space, comma_line, union_line, repeated_pieces, listed_pieces, word_pieces, col_pieces, source_pieces, right_pieces, equation_pieces}
+use Rattle.sql_emit.proofs.Pieces.{columns_pieces, where_pieces, distinct_pieces, from_pieces, query_pieces, body_pieces, table_pieces, last_pieces, pieces_of}
 
 -- ---- the tokens
 

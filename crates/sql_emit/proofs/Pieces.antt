@@ -1,6 +1,6 @@
 -- The pieces of what a text says: the tokens of the grammar, with the blanks that are printed between them.
 use Rattle.std.proofs.Common.{ℕ, Bool, true, false, List, [], ◌∷◌}
-use Rattle.token_text.specs.Spelled.{Piece, Gap, Lexeme}
+use Rattle.token_text.specs.Spelled.{Gap, Lexeme}
 use Rattle.sql_read.specs.declared.tokens.Mark.{Mark}
 use Rattle.sql_read.specs.declared.tokens.Mark.TheVariants.{With, Recursive, As, Select, Distinct, From, Where, And, Union, Open, Close, Comma, Dot, Equals}
 use Rattle.sql_read.specs.Tokens.{Fixed, Word, Number}

@@ -1,7 +1,7 @@
 -- The rules of a query, as rules of links.
-use Rattle.std.proofs.Common.{◌≡◌, ℕ, zero, suc, ◌+◌, ◌<◌, ◌≤◌, Bool, true, false, ◌&&◌, ◌||◌, nat_lt, List, [], ◌∷◌, length, take, drop, map, refl, sym, ap, subst, ◌∙◌, arith}
+use Rattle.std.proofs.Common.{◌≡◌, ℕ, zero, suc, ◌+◌, ◌≤◌, Bool, true, ◌&&◌, ◌||◌, nat_lt, List, [], ◌∷◌, length, take, drop, map, refl, sym, ap, subst, ◌∙◌, arith}
 use Rattle.std.specs.Prelude.{◌==◌, nat_le}
-use Rattle.std.specs.List.{list_all, list_any, take-map}
+use Rattle.std.specs.List.{list_all, take-map}
 use Rattle.std.proofs.lemmas.Bool.{and_parts}
 use Rattle.std.proofs.lemmas.Bool.Decides.{nat_tests}
 use Rattle.std.proofs.lemmas.List.{length-map, length-take, length-drop, drop-map, drop-drop}
@@ -14,7 +14,6 @@ use Rattle.query_terms.specs.Lists.{is_heads, heads_in, words_in, conjunct_in, r
 use Rattle.query_terms.specs.Values as value
 use Rattle.query_terms.specs.Values.{ConjunctValue, RuleValue, arity_of, are_rules, is_rule, have_heads}
 use Rattle.sql_emit.specs.declared.links.Link.{Link}
-use Rattle.sql_emit.specs.declared.links.LinkRule.{LinkRule}
 use Rattle.sql_emit.specs.Rules.{occurs, is_link_rule, has_heads, heads_of, are_link_rules, links_of, link_rules}
 use Rattle.sql_emit.specs.Writing.{link_of, link_rule_in, is_rule_of}
 
@@ -68,21 +67,22 @@ module _ (q : Query) (cs : List Conjunct) where
       let here : r.conjuncts.first ≡ from = first_is r.conjuncts.first from outer.0 in
       let within : r.conjuncts.first + r.conjuncts.count ≤ length cs = ends_within (r.conjuncts.first + r.conjuncts.count) (length cs) inner.0 in
       let cut_is : cut (map view cs) r.conjuncts ≡ map view (take r.conjuncts.count (drop from cs))
-          = cut_map view cs r.conjuncts ∙ ap (λ n. map view (take r.conjuncts.count (drop n cs))) here in
+      = cut_map view cs r.conjuncts ∙ ap (λ n. map view (take r.conjuncts.count (drop n cs))) here in
       let links : map link_of (cut cs r.conjuncts) ≡ links_of (cut (map view cs) r.conjuncts) (map term_of (drop from cs))
-          = ap (λ n. map link_of (take r.conjuncts.count (drop n cs))) here ∙ sym (links_same (drop from cs) r.conjuncts.count)
-            ∙ ap (λ vs. links_of vs (map term_of (drop from cs))) (sym cut_is) in
+      = ap (λ n. map link_of (take r.conjuncts.count (drop n cs))) here ∙ sym (links_same (drop from cs) r.conjuncts.count)
+      ∙ ap (λ vs. links_of vs (map term_of (drop from cs))) (sym cut_is) in
       let many : length (cut (map view cs) r.conjuncts) ≡ r.conjuncts.count
-          = ap length cut_is ∙ length-map (take r.conjuncts.count (drop from cs)) view
-            ∙ (let a = length-take r.conjuncts.count (drop from cs) in let b = length-drop from cs in omega (arith, a, b, within, here)) in
+      = ap length cut_is ∙ length-map (take r.conjuncts.count (drop from cs)) view
+      ∙ (let a = length-take r.conjuncts.count (drop from cs) in let b = length-drop from cs in omega (arith, a, b, within, here)) in
       let left : map term_of (drop (from + r.conjuncts.count) cs) ≡ drop (length (cut (map view cs) r.conjuncts)) (map term_of (drop from cs))
-          = ap (map term_of) (sym (drop-drop r.conjuncts.count from cs)) ∙ sym (drop-map term_of r.conjuncts.count (drop from cs))
-            ∙ ap (λ n. drop n (map term_of (drop from cs))) (sym many) in
+      = ap (map term_of) (sym (drop-drop r.conjuncts.count from cs)) ∙ sym (drop-map term_of r.conjuncts.count (drop from cs))
+      ∙ ap (λ n. drop n (map term_of (drop from cs))) (sym many) in
       let more = rules_same rs (from + r.conjuncts.count) to outer.1 inner.1 ∙ ap (link_rules (map value_of rs)) left in
       λ i. record { heads = heads_in r.heads; links = links i } ∷ more i
     where
       first_is : (m n : ℕ) → (m == n) ≡ true → m ≡ n
       first_is m n e = grind (arith, nat_tests)
+
       ends_within : (m n : ℕ) → nat_le m n ≡ true → m ≤ n
       ends_within m n e = grind (arith, nat_tests)
 
@@ -111,10 +111,13 @@ module _ (q : Query) (cs : List Conjunct) where
         let heads = (and_parts (value.arity_built (length v.heads) && value.differ v.heads) (list_all (value.occurs v.conjuncts) v.heads) outer.1).1 in
         let long : length (map link_of ds) ≡ length v.conjuncts = length-map ds link_of ∙ sym (length-map ds view) ∙ ap length (sym are) in
         let terms_below : list_all (λ n. nat_lt n terms) (map term_of ds) ≡ true
-            = ap (list_all (λ n. nat_lt n terms)) (sym (cut_map term_of cs r.conjuncts))
-              ∙ all_take (λ n. nat_lt n terms) r.conjuncts.count (drop r.conjuncts.first (map term_of cs)) (all_drop (λ n. nat_lt n terms) r.conjuncts.first (map term_of cs) below) in
-        rw (ap (nat_lt 0) long ∙ some, sym (terms_same terms ds) ∙ terms_below,
-          heads_same ds v.heads (subst (λ ws. list_all (value.occurs ws) v.heads ≡ true) are heads)) refl
+        = ap (list_all (λ n. nat_lt n terms)) (sym (cut_map term_of cs r.conjuncts))
+        ∙ all_take (λ n. nat_lt n terms) r.conjuncts.count (drop r.conjuncts.first (map term_of cs)) (all_drop (λ n. nat_lt n terms) r.conjuncts.first (map term_of cs) below) in
+        rw (
+          ap (nat_lt 0) long ∙ some,
+          sym (terms_same terms ds) ∙ terms_below,
+          heads_same ds v.heads (subst (λ ws. list_all (value.occurs ws) v.heads ≡ true) are heads),
+        ) refl
 
     rules_are_links : (rs : List Rule) → list_all (is_rule edges) (map value_of rs) ≡ true → list_all (is_link_rule terms) (map (link_rule_in cs) rs) ≡ true
     rules_are_links [] all = refl

@@ -6,10 +6,8 @@ use Rattle.token_text.proofs.SpelledLemmas.{HasTokens-spelled}
 use Rattle.query_terms.specs.declared.terms.Term.{Term}
 use Rattle.query_terms.specs.Store.{with_numbers}
 use Rattle.sql_read.specs.Tokens.{is_blank, first, HasSqlTokens}
-use Rattle.sql_emit.specs.declared.links.LinkRule.{LinkRule}
 use Rattle.sql_emit.specs.Reading.{term_table, printed_of}
-use Rattle.sql_emit.specs.Text.{links_text_of}
-use Rattle.sql_emit.specs.Laws.{ArePrintable, HasReading, TextHasReading}
+use Rattle.sql_emit.specs.Laws.{TextHasReading}
 use Rattle.sql_emit.proofs.Spelling.{spell, may_precede}
 use Rattle.sql_emit.proofs.SpellingLemmas.{spelling_is_read}
 use Rattle.sql_emit.proofs.Pieces.{pieces_of}

@@ -1,5 +1,5 @@
 -- What is spelled of a token, before what may follow it, is cut off as that token.
-use Rattle.std.proofs.Common.{◌≡◌, ℕ, ◌<◌, ◌^◌, Bool, true, false, ◌||◌, ◌&&◌, nat_lt, List, [], ◌∷◌, ◌++◌, Option, Some, None, codes, decimal, refl, sym, ap, subst, ◌∙◌, arith}
+use Rattle.std.proofs.Common.{◌≡◌, ℕ, ◌<◌, ◌^◌, Bool, true, false, ◌||◌, ◌&&◌, nat_lt, List, [], ◌∷◌, ◌++◌, Option, Some, None, codes, decimal, refl, ap, arith}
 use Rattle.std.specs.Prelude.{not, is_none, slice_index, ◌==◌}
 use Rattle.std.specs.List.{list_all}
 use Rattle.std.specs.Char.{is_ascii_digit, is_ascii_lowercase, to_ascii_lowercase}
@@ -7,12 +7,12 @@ use Rattle.std.specs.Str.Parse.{digits_value}
 use Rattle.std.proofs.lemmas.Bool.{and_parts}
 use Rattle.std.proofs.lemmas.Bool.Decides.{nat_tests}
 use Rattle.gm_text.specs.Name.{is_name_byte}
-use Rattle.gm_text.specs.Decimal.{is_canonical}
 use Rattle.gm_text.proofs.DecimalLemmas.{decimal_is_canonical, digits_value_decimal}
 use Rattle.token_text.specs.Spelled.{Cuts, CutsOff}
 use Rattle.sql_read.specs.declared.tokens.Mark.{Mark}
 use Rattle.sql_read.specs.declared.tokens.Mark.TheVariants.{With, Recursive, As, Select, Distinct, From, Where, And, Union, Open, Close, Comma, Dot, Equals}
-use Rattle.sql_read.specs.Tokens.{Token, Fixed, Word, Number, is_blank, run_of, after_run, in_any_case, keywords, keyword_in, keyword_of, is_word_byte, is_word, is_number, token_of, token_from, plain_token_of, first}
+use Rattle.sql_read.specs.Tokens.{Token, Fixed, Word, Number, is_blank, run_of, after_run, in_any_case, keywords, keyword_in, keyword_of, is_word_byte, is_word, is_number, token_of}
+use Rattle.sql_read.specs.Tokens.{plain_token_of, first}
 use Rattle.sql_read.proofs.TokenLemmas.{number_fits}
 use Rattle.sql_emit.proofs.Spelling.{spell, spell_mark, ends_run, is_sign, may_precede}
 

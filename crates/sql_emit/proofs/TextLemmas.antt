@@ -3,18 +3,19 @@ use Rattle.std.proofs.Common.{◌≡◌, ℕ, true, false, List, [], ◌∷◌, 
 use Rattle.std.specs.List.{join_by, flat_map}
 use Rattle.std.proofs.lemmas.List.{append_assoc, map-id}
 use Rattle.std.proofs.lemmas.Fmt.{decimal_digit}
-use Rattle.token_text.specs.Spelled.{Piece, Gap, Lexeme}
+use Rattle.token_text.specs.Spelled.{Gap, Lexeme}
 use Rattle.query_terms.specs.declared.terms.Term.{Term}
 use Rattle.query_terms.specs.declared.terms.Term.TheVariants.{Step, Seq, Alt, Star, Opt}
 use Rattle.query_terms.specs.Store.{with_numbers}
-use Rattle.sql_read.specs.declared.tokens.Mark.TheVariants.{With, Recursive, As, Select, Distinct, From, Where, And, Union, Open, Close, Comma, Dot, Equals}
-use Rattle.sql_read.specs.Tokens.{Fixed, Word, Number}
-use Rattle.sql_read.specs.Grammar.{Col, Right, Column, Value, Equation, Source, Query, Table, Reading}
+use Rattle.sql_read.specs.declared.tokens.Mark.TheVariants.{And, Close, Equals}
+use Rattle.sql_read.specs.Tokens.{Fixed}
+use Rattle.sql_read.specs.Grammar.{Column, Value}
 use Rattle.sql_emit.specs.declared.links.LinkRule.{LinkRule}
-use Rattle.sql_emit.specs.Reading.{table_name, nodes_table, body_of, term_table, rule_query, printed_of}
+use Rattle.sql_emit.specs.Reading.{table_name, body_of, term_table, rule_query, printed_of}
 use Rattle.sql_emit.specs.Text.{nodes_line, body_text, term_line, tables_text, col_text, source_text, right_text, equation_text, columns_text, where_text, query_text, rule_text, links_text_of}
 use Rattle.sql_emit.proofs.Spelling.{Pieces, text}
-use Rattle.sql_emit.proofs.Pieces.{spaced, comma_space, comma_line, union_line, repeated_pieces, listed_pieces, col_pieces, source_pieces, right_pieces, equation_pieces, columns_pieces, where_pieces, from_pieces, query_pieces, body_pieces, table_pieces, last_pieces, pieces_of}
+use Rattle.sql_emit.proofs.Pieces.{spaced, comma_space, comma_line, union_line, repeated_pieces, listed_pieces, col_pieces, source_pieces, right_pieces, equation_pieces, columns_pieces}
+use Rattle.sql_emit.proofs.Pieces.{where_pieces, from_pieces, query_pieces, body_pieces, table_pieces, last_pieces, pieces_of}
 
 abbrev Spells : {A : Type 0} → (A → List ℕ) → (A → Pieces → Pieces) → Type 0
 Spells {A = A} write pieces = (x : A) (rest : Pieces) → write x ++ text rest ≡ text (pieces x rest)
@@ -81,9 +82,9 @@ spells_query : Spells query_text (query_pieces true)
 spells_query q rest =
     five (codes "SELECT DISTINCT ") (columns_text q.columns) (codes " FROM ") (join_by source_text (codes ", ") q.sources) (where_text q.equations) (text rest)
     ∙ ap (λ (bs : List ℕ). codes "SELECT DISTINCT " ++ (columns_text q.columns ++ (codes " FROM " ++ (join_by source_text (codes ", ") q.sources ++ bs))))
-      (spells_where q.equations rest)
+    (spells_where q.equations rest)
     ∙ ap (λ (bs : List ℕ). codes "SELECT DISTINCT " ++ (columns_text q.columns ++ (codes " FROM " ++ bs)))
-      (spells_list source_text source_pieces spells_source (codes ", ") comma_space (λ r. refl) q.sources (where_pieces q.equations rest))
+    (spells_list source_text source_pieces spells_source (codes ", ") comma_space (λ r. refl) q.sources (where_pieces q.equations rest))
     ∙ ap (λ (bs : List ℕ). codes "SELECT DISTINCT " ++ bs) (spells_columns q.columns (from_pieces q rest))
 
 spells_rule : (r : LinkRule) (rest : Pieces) → rule_text r ++ text rest ≡ text (query_pieces true (rule_query r) rest)
@@ -118,12 +119,12 @@ spells_tables : (terms : List Term) (rest : Pieces) → tables_text terms ++ tex
 spells_tables terms rest =
     append_assoc nodes_line _ (text rest)
     ∙ ap (λ (bs : List ℕ). nodes_line ++ bs)
-      (flat_map-map (λ line. codes ",\n" ++ line) term_line (with_numbers 0 terms) (text rest)
-      ∙ spells_repeated term_line term_table table_pieces spells_line (codes ",\n") comma_line (λ r. refl) (with_numbers 0 terms) rest)
+    (flat_map-map (λ line. codes ",\n" ++ line) term_line (with_numbers 0 terms) (text rest)
+    ∙ spells_repeated term_line term_table table_pieces spells_line (codes ",\n") comma_line (λ r. refl) (with_numbers 0 terms) rest)
 
 pub text_is_spelled : (terms : List Term) (rules : List LinkRule) → links_text_of terms rules ≡ text (pieces_of (printed_of terms rules))
 text_is_spelled terms rules =
     let last : join_by rule_text (codes "\nUNION\n") rules ++ codes "\n" ≡ text (listed_pieces (query_pieces true) union_line (map rule_query rules) (Gap 10 ∷ []))
-        = spells_joined rule_text rule_query (query_pieces true) spells_rule (codes "\nUNION\n") union_line (λ r. refl) rules (Gap 10 ∷ []) in
+    = spells_joined rule_text rule_query (query_pieces true) spells_rule (codes "\nUNION\n") union_line (λ r. refl) rules (Gap 10 ∷ []) in
     ap (λ (bs : List ℕ). codes "WITH RECURSIVE\n" ++ (tables_text terms ++ (codes "\n" ++ bs))) last
     ∙ ap (λ (bs : List ℕ). codes "WITH RECURSIVE\n" ++ bs) (spells_tables terms (last_pieces (map rule_query rules)))

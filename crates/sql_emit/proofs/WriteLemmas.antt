@@ -1,5 +1,6 @@
 -- How a text grows, item by item.
-use Rattle.std.proofs.Common.{◌≡◌, ℕ, zero, suc, ◌+◌, ◌<◌, Bool, true, false, if◌then◌else◌, Option, Some, None, List, [], ◌∷◌, ◌++◌, length, take, drop, map, codes, refl, sym, ap, subst, ◌∙◌, true≢false, arith}
+use Rattle.std.proofs.Common.{◌≡◌, ℕ, zero, suc, ◌+◌, ◌<◌, Bool, true, false, if◌then◌else◌, Option, Some, None, List, [], ◌∷◌, ◌++◌, length, take, drop, map, codes, refl, sym, ap, subst}
+use Rattle.std.proofs.Common.{◌∙◌, true≢false, arith}
 use Rattle.std.specs.Prelude.{◌==◌, slice_get, is_some, unwrap_or}
 use Rattle.std.specs.List.{join_by, flat_map, list_all, take-map}
 use Rattle.std.specs.Option.{option_or, option_map}
@@ -10,7 +11,6 @@ use Rattle.std.proofs.lemmas.List.{append_assoc, append-nil, length-take}
 use Rattle.std.proofs.lemmas.List.Folds.{list_all-append}
 use Rattle.std.proofs.lemmas.Grind.{flat_map-append}
 use Rattle.query_terms.specs.declared.terms.Term.{Term}
-use Rattle.query_terms.specs.Store.{with_numbers}
 use Rattle.sql_read.specs.Grammar.{Col, Equation, Column}
 use Rattle.sql_emit.specs.declared.links.Link.{Link}
 use Rattle.sql_emit.specs.declared.links.LinkRule.{LinkRule}
@@ -18,8 +18,8 @@ use Rattle.sql_emit.specs.declared.columns.End.TheVariants.{Src, Trg}
 use Rattle.sql_emit.specs.declared.columns.Column.{Column as CodeColumn}
 use Rattle.sql_emit.specs.declared.columns.Ends.{Ends}
 use Rattle.sql_emit.specs.Rules.{occurs, is_link_rule, are_link_rules}
-use Rattle.sql_emit.specs.Reading.{table_name, alias_name, col, source, equal, Occurrence, occurrences_from, first_of, head_column, equation_for, equations_from, sources_from, rule_query}
-use Rattle.sql_emit.specs.Text.{nodes_line, term_line, tables_text, col_text, source_text, equation_text, columns_text, where_text, rule_text}
+use Rattle.sql_emit.specs.Reading.{table_name, alias_name, col, source, equal, Occurrence, occurrences_from, first_of, head_column, equation_for, equations_from, sources_from}
+use Rattle.sql_emit.specs.Text.{nodes_line, term_line, tables_text, col_text, source_text, equation_text, where_text}
 use Rattle.sql_emit.specs.Writing.{lead, lines_left, joint, column_view, occurrence, column_of, AreEnds}
 use Rattle.sql_emit.proofs.SpellingLemmas.{list_all_weaker}
 use Rattle.sql_emit.proofs.HoldsLemmas.{heads_found, rule_parts, rules_parts}
@@ -106,8 +106,8 @@ equations_push : (before os : List Occurrence) (o : Occurrence)
 equations_push before [] o = append-nil _ ∙ ap (λ bs. equation_for (first_of bs o.variable) o.at) (sym (append-nil before))
 equations_push before (p ∷ os) o =
     ap (λ es. equation_for (first_of before p.variable) p.at ++ es)
-      (equations_push (before ++ p ∷ []) os o
-      ∙ ap (λ bs. equations_from (before ++ p ∷ []) os ++ equation_for (first_of bs o.variable) o.at) (append_assoc before (p ∷ []) os))
+    (equations_push (before ++ p ∷ []) os o
+    ∙ ap (λ bs. equations_from (before ++ p ∷ []) os ++ equation_for (first_of bs o.variable) o.at) (append_assoc before (p ∷ []) os))
     ∙ sym (append_assoc (equation_for (first_of before p.variable) p.at) (equations_from (before ++ p ∷ []) os) _)
 
 where_push : (es : List Equation) (e : Equation) → where_text (es ++ e ∷ []) ≡ where_text es ++ (joint (length (where_text es) == 0) ++ equation_text e)
@@ -124,6 +124,7 @@ firsts_again os o there w = either (first_of os w) (o.variable == w) found ∙ s
     either (Some c) b h = refl
     either None true h = absurd (true≢false (sym (h refl)))
     either None false h = refl
+
     found : (o.variable == w) ≡ true → is_some (first_of os w) ≡ true
     found e = let same : o.variable ≡ w = grind (arith, nat_tests) in subst (λ v. is_some (first_of os v) ≡ true) same there
 
@@ -136,6 +137,7 @@ firsts_new os o none w = either (first_of os w) (o.variable == w) absent ∙ sym
     either first true h = rw (h refl) refl
     either None false h = refl
     either (Some c) false h = refl
+
     absent : (o.variable == w) ≡ true → first_of os w ≡ None
     absent e = let same : o.variable ≡ w = grind (arith, nat_tests) in subst (λ v. first_of os v ≡ None) same none
 
@@ -181,7 +183,7 @@ ends_new os v column old new are none same kept =
 
 occurrences_push : (links : List Link) (k : ℕ) (l : Link) (n : ℕ) → n ≡ k + length links
     → occurrences_from k (links ++ l ∷ [])
-      ≡ (occurrences_from k links ++ occurrence l.src (record { link = n; end = Src }) ∷ []) ++ occurrence l.trg (record { link = n; end = Trg }) ∷ []
+    ≡ (occurrences_from k links ++ occurrence l.src (record { link = n; end = Src }) ∷ []) ++ occurrence l.trg (record { link = n; end = Trg }) ∷ []
 occurrences_push [] k l n is =
     let same : n ≡ k = omega (arith, is) in
     subst (λ m. occurrences_from k (l ∷ []) ≡ occurrence l.src (record { link = m; end = Src }) ∷ occurrence l.trg (record { link = m; end = Trg }) ∷ []) (sym same) refl
@@ -191,7 +193,7 @@ occurrences_push (x ∷ links) k l n is =
 
 pub occurrences_more : (links : List Link) (i : ℕ) (l : Link) → slice_get links i ≡ Some l
     → occurrences_from 0 (take (i + 1) links)
-      ≡ (occurrences_from 0 (take i links) ++ occurrence l.src (record { link = i; end = Src }) ∷ []) ++ occurrence l.trg (record { link = i; end = Trg }) ∷ []
+    ≡ (occurrences_from 0 (take i links) ++ occurrence l.src (record { link = i; end = Src }) ∷ []) ++ occurrence l.trg (record { link = i; end = Trg }) ∷ []
 occurrences_more links i l at =
     let within : i < length links = slice_get_within links i l at in
     ap (occurrences_from 0) (take_at links i l at) ∙ occurrences_push (take i links) 0 l i (let n = length-take i links in omega (arith, n, within))
@@ -217,8 +219,8 @@ pub sources_more : (links : List Link) (i : ℕ) (l : Link) (old out led next : 
     → next ≡ old ++ join_by source_text (codes ", ") (sources_from 0 (take (i + 1) links))
 sources_more links i l old out led next at so_far is more =
     written_more source_text (codes ", ") (sources_from 0 links) i (source (table_name l.term) (alias_name i)) old out led next
-      (sources_at links 0 i l i (omega arith) at)
-      (so_far ∙ ap (λ ss. old ++ join_by source_text (codes ", ") ss) (sources_take links 0 i)) is more
+    (sources_at links 0 i l i (omega arith) at)
+    (so_far ∙ ap (λ ss. old ++ join_by source_text (codes ", ") ss) (sources_take links 0 i)) is more
     ∙ ap (λ ss. old ++ join_by source_text (codes ", ") ss) (sym (sources_take links 0 (i + 1)))
 
 pub heads_more : (os : List Occurrence) (heads : List ℕ) (i v : ℕ) (column : CodeColumn) (ends : Ends) (old out led next : List ℕ) → slice_get heads i ≡ Some v
@@ -229,8 +231,8 @@ heads_more os heads i v column ends old out led next at are found so_far is more
     let first : first_of os v ≡ Some (column_view column) = sym (are.firsts v) ∙ ap (option_map column_view) (sym found) in
     let head : head_column os v ≡ column_view column = ap (λ c. unwrap_or c (col [] [])) first in
     written_more col_text (codes ", ") (map (head_column os) heads) i (column_view column) old out led next
-      (slice_get-map (head_column os) heads i ∙ ap (option_map (head_column os)) at ∙ ap (λ c. Some c) head)
-      (so_far ∙ ap (λ cs. old ++ join_by col_text (codes ", ") cs) (sym (take-map (head_column os) i heads))) is more
+    (slice_get-map (head_column os) heads i ∙ ap (option_map (head_column os)) at ∙ ap (λ c. Some c) head)
+    (so_far ∙ ap (λ cs. old ++ join_by col_text (codes ", ") cs) (sym (take-map (head_column os) i heads))) is more
     ∙ ap (λ cs. old ++ join_by col_text (codes ", ") cs) (take-map (head_column os) (i + 1) heads)
 
 some_map : {A B : Type 0} → (f : A → B) (o : Option A) → is_some (option_map f o) ≡ is_some o

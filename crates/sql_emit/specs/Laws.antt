@@ -5,7 +5,7 @@
 use Rattle.std.specs.Prelude.{◌≡◌, ℕ, ◌+◌, ◌<◌, ◌^◌, Bool, true, nat_lt, List, length, Some, slice_get}
 use Rattle.std.specs.List.{list_all}
 use Rattle.query_terms.specs.declared.terms.Term.{Term}
-use Rattle.query_terms.specs.declared.terms.Term.TheVariants.{Step, Seq, Alt, Star, Opt}
+use Rattle.query_terms.specs.declared.terms.Term.TheVariants.{Step}
 use Rattle.query_terms.specs.Store.{IsStore}
 use Rattle.sql_read.specs.Text.{IsSql}
 use Rattle.sql_emit.specs.declared.links.LinkRule.{LinkRule}

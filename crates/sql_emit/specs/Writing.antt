@@ -5,7 +5,7 @@
 --   joint is_first                 what stands before an equation
 --   link_of c, link_rule_in conjuncts r   a conjunct and a rule of a query, as a link and as a rule of links
 --   AreEnds occurrences ends       the first columns of the variables, and the equations of the others
-use Rattle.std.specs.Prelude.{◌≡◌, ℕ, Bool, true, false, ◌==◌, ◌&&◌, if◌then◌else◌, Option, List, [], ◌∷◌, ◌++◌, map, codes}
+use Rattle.std.specs.Prelude.{◌≡◌, ℕ, Bool, true, false, ◌==◌, ◌&&◌, if◌then◌else◌, Option, List, [], ◌++◌, map, codes}
 use Rattle.std.specs.List.{flat_map}
 use Rattle.std.specs.Option.{option_map}
 use Rattle.indexmap.specs.IndexMap.{get_by}

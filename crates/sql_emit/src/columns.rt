@@ -24,7 +24,7 @@ pub(crate) enum End {
 #[derive(Clone, Copy, Debug, PartialEq, Eq)]
 pub(crate) struct Column {
     /// The number of the link in the rule.
-    pub(crate) link: u64,
+    pub(crate) link: usize,
     /// Which column of the link's table.
     pub(crate) end: End,
 }
@@ -39,11 +39,7 @@ pub(crate) struct Ends {
 }
 
 /// Appends a column.
-pub(crate) fn put_column(
-    alloc: Global,
-    out: &mut Vec<u8>,
-    column: Column,
-) -> Result<(), AllocError>
+pub(crate) fn put_column(alloc: Global, out: &mut Vec<u8>, column: Column) -> Result<(), AllocError>
     ensures { OnOk result (out.new.items ≡ out.old.items ++ col_text (column_view column)) }
 {
     put_alias(alloc, out, column.link)?;
@@ -73,12 +69,7 @@ fn put_equation(
 }
 
 /// A variable stands in one column more.
-fn add_end(
-    alloc: Global,
-    ends: &mut Ends,
-    variable: u32,
-    column: Column,
-) -> Result<(), AllocError>
+fn add_end(alloc: Global, ends: &mut Ends, variable: u32, column: Column) -> Result<(), AllocError>
     ensures { OnOk result ((os : List Occurrence) → AreEnds os ends.old → AreEnds (os ++ occurrence variable column ∷ []) ends.new) }
 {
     if let Some(first) = ends.firsts.get(&variable) {
@@ -87,6 +78,13 @@ fn add_end(
     }
     ends.firsts.insert(variable, column)?;
     Ok(())
+}
+
+/// A column of the table of a link, by the number of the link.
+fn column_at(link: usize, end: End) -> Column
+    ensures { result ≡ record { link = link; end = end } }
+{
+    Column { link, end }
 }
 
 /// The ends of a rule's links.
@@ -99,9 +97,8 @@ pub(crate) fn ends_of(alloc: Global, links: &[Link]) -> Result<Ends, AllocError>
     };
     for i in 0..links.len() {
         let link = links[i];
-        let number = i as u64;
-        add_end(alloc, &mut ends, link.src, Column { link: number, end: End::Src })?;
-        add_end(alloc, &mut ends, link.trg, Column { link: number, end: End::Trg })?;
+        add_end(alloc, &mut ends, link.src, column_at(i, End::Src))?;
+        add_end(alloc, &mut ends, link.trg, column_at(i, End::Trg))?;
     }
     Ok(ends)
 }

@@ -21,11 +21,11 @@ pub(crate) fn put_table_name(
 }
 
 /// Appends the alias of the table of a rule's link, by the number of the link.
-pub(crate) fn put_alias(alloc: Global, out: &mut Vec<u8>, link: u64) -> Result<(), AllocError>
+pub(crate) fn put_alias(alloc: Global, out: &mut Vec<u8>, link: usize) -> Result<(), AllocError>
     ensures { OnOk result (out.new.items ≡ out.old.items ++ alias_name link) }
 {
     out.push(b'c')?;
-    write_decimal(alloc, out, link)
+    write_decimal(alloc, out, link as u64)
 }
 
 /// Appends what stands before an item of a list, by the number of the item.

@@ -15,12 +15,7 @@ use query_terms::TermId;
 use std::alloc::{AllocError, Global};
 
 /// Appends the column of each head, or `1` where there is none.
-fn put_heads(
-    alloc: Global,
-    out: &mut Vec<u8>,
-    ends: &Ends,
-    heads: &[u32],
-) -> Result<(), AllocError>
+fn put_heads(alloc: Global, out: &mut Vec<u8>, ends: &Ends, heads: &[u32]) -> Result<(), AllocError>
     requires occur { list_all (λ v. is_some (column_of ends.now v)) heads.now ≡ true }
     ensures { OnOk result ((os : List Occurrence) → AreEnds os ends.now → out.new.items ≡ out.old.items ++ columns_text (map (head_column os) heads.now)) }
 {
@@ -38,12 +33,7 @@ fn put_heads(
 }
 
 /// Appends a table under the alias of a link, by the number of the link.
-fn put_source(
-    alloc: Global,
-    out: &mut Vec<u8>,
-    term: TermId,
-    link: u64,
-) -> Result<(), AllocError>
+fn put_source(alloc: Global, out: &mut Vec<u8>, term: TermId, link: usize) -> Result<(), AllocError>
     ensures { OnOk result (out.new.items ≡ out.old.items ++ source_text (source (table_name term) (alias_name link))) }
 {
     put_table_name(alloc, out, term)?;
@@ -58,7 +48,7 @@ fn put_sources(alloc: Global, out: &mut Vec<u8>, links: &[Link]) -> Result<(), A
 {
     for i in 0..links.len() {
         put_lead(out, i, b", ")?;
-        put_source(alloc, out, links[i].term, i as u64)?;
+        put_source(alloc, out, links[i].term, i)?;
     }
     Ok(())
 }

@@ -12,8 +12,7 @@ use gm_text::write_decimal;
 use query_terms::{Term, TermId, TermStore};
 use std::alloc::{AllocError, Global};
 
-const NODES: &[u8] =
-    b"nodes(v) AS (SELECT e.src FROM edge AS e UNION SELECT e.trg FROM edge AS e)";
+const NODES: &[u8] = b"nodes(v) AS (SELECT e.src FROM edge AS e UNION SELECT e.trg FROM edge AS e)";
 
 const SEQ: &[u8] = b"SELECT a.src, b.trg FROM ";
 
@@ -41,12 +40,7 @@ fn steps(back: bool) -> &'static [u8]
 }
 
 /// Appends a text, and then the number of a label.
-fn put_label(
-    alloc: Global,
-    out: &mut Vec<u8>,
-    before: &[u8],
-    label: u8,
-) -> Result<(), AllocError>
+fn put_label(alloc: Global, out: &mut Vec<u8>, before: &[u8], label: u8) -> Result<(), AllocError>
     ensures { OnOk result (out.new.items ≡ out.old.items ++ (before.now ++ decimal label)) }
 {
     out.extend_from_slice(before)?;

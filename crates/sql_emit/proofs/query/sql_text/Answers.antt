@@ -1,7 +1,6 @@
-use Rattle.std.proofs.Common.{◌≡◌, sym, ap, ◌∙◌, subst, length, map, drop}
-use Rattle.std.specs.List.{list_all}
+use Rattle.std.proofs.Common.{◌≡◌, ap, ◌∙◌, length}
 use Rattle.query_terms.specs.View.{query_value}
-use Rattle.sql_emit.specs.Text.{query_links, sql_text_of}
+use Rattle.sql_emit.specs.Text.{query_links}
 use Rattle.sql_emit.specs.Rules.{link_rules}
 use Rattle.sql_emit.proofs.QueryLemmas.{rules_lie, rules_same, rules_are_printable}
 use Rattle.sql_emit.proofs.query.sql_text.Goals as goal

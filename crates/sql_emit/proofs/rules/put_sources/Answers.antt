@@ -1,4 +1,3 @@
-use Rattle.std.proofs.Common.{sym}
 use Rattle.std.proofs.lemmas.Option.{slice_get-get_or}
 use Rattle.sql_emit.proofs.WriteLemmas.{sources_more}
 use Rattle.sql_emit.proofs.rules.put_sources.Goals as goal

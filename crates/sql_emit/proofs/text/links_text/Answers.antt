@@ -1,4 +1,4 @@
-use Rattle.std.proofs.Common.{sym, subst, length, ◌∙◌, ap, ◌++◌, List, [], ℕ, codes}
+use Rattle.std.proofs.Common.{sym, subst, length, [], codes}
 use Rattle.sql_emit.specs.Laws.{HasReading}
 use Rattle.sql_emit.proofs.ReadingLemmas.{text_has_reading}
 use Rattle.sql_emit.proofs.WriteLemmas.{rules_have_heads, five_written}
@@ -10,7 +10,7 @@ put_rules-requires c = record { heads = rules_have_heads (length c.args.terms.no
 pub returns-clause-reading : goal.returns-clause-reading
 returns-clause-reading c =
     let written = five_written [] _ _ _ _ _ (codes "WITH RECURSIVE\n") _ _ _ _ (rw c.new-out.ensures.items at c.in_ok-extend_from_slice.ensures.items)
-        c.in_ok-put_tables.ensures.text c.in_ok-extend_from_slice-2.ensures.items c.in_ok-put_rules.ensures.text c.in_ok-extend_from_slice-3.ensures.items in
+    c.in_ok-put_tables.ensures.text c.in_ok-extend_from_slice-2.ensures.items c.in_ok-put_rules.ensures.text c.in_ok-extend_from_slice-3.ensures.items in
     subst (λ text. HasReading text c.args.terms.now c.args.rules.now) (sym written)
     (text_has_reading c.args.terms.now c.args.rules.now (record {
       store = c.in_ok-put_tables.ensures.store;
