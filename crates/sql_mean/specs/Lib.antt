@@ -1,0 +1,3 @@
+pub mod Selects
+pub mod Tables
+pub mod Rows

@@ -1,0 +1,2 @@
+//! The rows of SQL texts over graphs.
+#![tactic(auto)]
