@@ -13,7 +13,7 @@ use Rattle.sql_read.specs.Grammar.{Col, Source, Equation, Query, Table}
 use Rattle.sql_read.specs.Conditions.{Header, header_of, columns_of}
 use Rattle.sql_mean.specs.Selects.{IsProduct, value_in, value_under, value_of, Meets, projected, IsSelectRow, IsUnionRow}
 use Rattle.sql_mean.specs.Tables.{With, takes_itself, base, last_select, InRound, AddsNothing, IsStableRow, IsTableRow}
-use Rattle.sql_mean.specs.Evaluation.{Known, headers_in, rows_under, KnownAs, with_row, with_each, grow, products, is_met, if_met, select_list, union_list, join_row, joined, so_far, round_list, IsStableList, IsTableList}
+use Rattle.sql_mean.specs.Evaluation.{KnownValue, headers_in, rows_under, KnownAs, with_row, with_each, grow, products, is_met, if_met, select_list, union_list, join_row, joined, so_far, round_list, IsStableList, IsTableList}
 use Rattle.sql_mean.proofs.NameLemmas.{same_name, names_are, with_here, from_here, with_there, from_there}
 use Rattle.sql_mean.proofs.SelectLemmas.{plain_row, from_plain, round_row, from_rounds}
 
@@ -116,7 +116,7 @@ joined-distinct (row ∷ rows) kept distinct = joined-distinct rows (join_row ke
 
 -- ---- products
 
-module _ (known : List Known) where
+module _ (known : List KnownValue) where
   -- the rows of the lists
   abbrev HasListed : List ℕ → List ℕ → Type 0
   HasListed name row = Contains (rows_under known name) row

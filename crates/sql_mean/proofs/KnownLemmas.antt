@@ -11,13 +11,13 @@ use Rattle.sql_read.specs.Grammar.{Col, Source, Query, Table}
 use Rattle.sql_read.specs.Conditions.{Header, header_of, columns_of}
 use Rattle.sql_mean.specs.Selects.{IsProduct, value_in, value_under, value_of, IsSelectRow, IsUnionRow}
 use Rattle.sql_mean.specs.Tables.{With, takes_itself, base, last_select, InRound, AddsNothing, IsStableRow, IsTableRow}
-use Rattle.sql_mean.specs.Evaluation.{Known, headers_in, rows_under, KnownAs, select_list, union_list, joined, so_far, round_list, IsStableList, IsTableList}
+use Rattle.sql_mean.specs.Evaluation.{KnownValue, headers_in, rows_under, KnownAs, select_list, union_list, joined, so_far, round_list, IsStableList, IsTableList}
 use Rattle.sql_mean.proofs.SelectLemmas.{plain_row, from_plain, round_row, from_rounds}
 use Rattle.sql_mean.proofs.EvaluationLemmas.{joined-cases, joined-keeps, joined-has, joined-distinct, union-from, union-has, union-more, stable_has_all}
 
 -- ---- one table more
 
-pub known_more : (known : List Known) (headers : List Header) (Has : List ℕ → List ℕ → Type 0) → KnownAs known headers Has → (t : Table) (rows : List (List ℕ)) (IsRow : List ℕ → Type 0)
+pub known_more : (known : List KnownValue) (headers : List Header) (Has : List ℕ → List ℕ → Type 0) → KnownAs known headers Has → (t : Table) (rows : List (List ℕ)) (IsRow : List ℕ → Type 0)
     → ((row : List ℕ) → Contains rows row ↔ IsRow row) → KnownAs (so_far t rows ∷ known) (header_of t ∷ headers) (With Has t.name IsRow)
 known_more known headers Has are t rows IsRow rows_are =
     record { columns = ap (λ hs. header_of t ∷ hs) are.columns; rows = λ name row. go name row (bytes_eq t.name name) }
@@ -28,7 +28,7 @@ known_more known headers Has are t rows IsRow rows_are =
 
 -- ---- the rows of rounds and of tables
 
-module _ (known : List Known) (headers : List Header) (Has : List ℕ → List ℕ → Type 0) (are : KnownAs known headers Has) where
+module _ (known : List KnownValue) (headers : List Header) (Has : List ℕ → List ℕ → Type 0) (are : KnownAs known headers Has) where
   pub union_are : (queries : List Query) (row : List ℕ) → Contains (union_list known queries) row ↔ IsUnionRow headers Has queries row
   union_are queries row = (
     λ has. subst (λ hs. IsUnionRow hs Has queries row) are.columns
@@ -45,7 +45,7 @@ module _ (known : List Known) (headers : List Header) (Has : List ℕ → List �
     λ is. joined-has (union_list known queries) [] row ((union_are queries row).1 is),
   )
 
-module _ (known : List Known) (headers : List Header) (Has : List ℕ → List ℕ → Type 0) (are : KnownAs known headers Has) (t : Table) where
+module _ (known : List KnownValue) (headers : List Header) (Has : List ℕ → List ℕ → Type 0) (are : KnownAs known headers Has) (t : Table) where
   pub round_are : (k : ℕ) (row : List ℕ) → Contains (round_list known t k) row ↔ InRound headers Has t k row
   unfolding round_list
   round_are zero row = joined_are known headers Has are (base t) row
@@ -137,22 +137,22 @@ tuples-has numbers (n ∷ row) (suc w) long within =
     Contains-flat_map (λ n. map (λ row. n ∷ row) (tuples numbers w)) numbers n (n ∷ row) (within n (Contains-first n row))
     (Contains-map (λ row. n ∷ row) (tuples numbers w) row (tuples-has numbers row w (omega (arith, long)) (λ m has. within m (Contains-later n m row has))))
 
-numbers_of : Known → List ℕ
+numbers_of : KnownValue → List ℕ
 numbers_of k = flat_map (λ row. row) k.rows
 
 -- 0 and the numbers of all rows
-numbers_in : List Known → List ℕ
+numbers_in : List KnownValue → List ℕ
 numbers_in known = 0 ∷ flat_map numbers_of known
 
 -- all rows that a table can have
-pub candidates : List Known → Table → List (List ℕ)
+pub candidates : List KnownValue → Table → List (List ℕ)
 candidates known t = flat_map (λ q. tuples (numbers_in known) (length q.columns)) t.body
 
-numbers_in-has : (known : List Known) (name row : List ℕ) → Contains (rows_under known name) row → Within (Contains (numbers_in known)) row
+numbers_in-has : (known : List KnownValue) (name row : List ℕ) → Contains (rows_under known name) row → Within (Contains (numbers_in known)) row
 unfolding Within numbers_in numbers_of
 numbers_in-has known name row has n among = Contains-later 0 n (flat_map numbers_of known) (listed known has)
   where
-    listed : (known : List Known) → Contains (rows_under known name) row → Contains (flat_map numbers_of known) n
+    listed : (known : List KnownValue) → Contains (rows_under known name) row → Contains (flat_map numbers_of known) n
     listed [] has = absurd (Contains-none row has)
     listed (k ∷ known) has =
         elim (cases_Bool (bytes_eq k.name name)) [
@@ -173,7 +173,7 @@ Contains-drop zero xs x has = has
 Contains-drop (suc n) [] x has = absurd (Contains-none x has)
 Contains-drop (suc n) (y ∷ xs) x has = Contains-later y x xs (Contains-drop n xs x has)
 
-module _ (known : List Known) (t : Table) where
+module _ (known : List KnownValue) (t : Table) where
   abbrev numbers : List ℕ
   numbers = numbers_in known
 
@@ -188,7 +188,7 @@ module _ (known : List Known) (t : Table) where
   zero_there = Contains-first 0 (flat_map numbers_of known)
 
   -- the rows of selects of the table, over tables with these numbers
-  select_candidate : (tables : List Known) → ((name row : List ℕ) → Contains (rows_under tables name) row → Within (Contains numbers) row) → (queries : List Query)
+  select_candidate : (tables : List KnownValue) → ((name row : List ℕ) → Contains (rows_under tables name) row → Within (Contains numbers) row) → (queries : List Query)
       → ((q : Query) → Contains queries q → Contains t.body q) → (row : List ℕ) → Contains (union_list tables queries) row → IsCandidate row
   select_candidate tables rows queries inside row has =
       let u = union-from tables queries row has in
