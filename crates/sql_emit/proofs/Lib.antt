@@ -8,3 +8,8 @@ pub mod GoodLemmas
 pub mod ReadingLemmas
 pub mod WriteLemmas
 pub mod QueryLemmas
+pub mod PairLemmas
+pub mod TableLemmas
+pub mod RuleLemmas
+pub mod LinkLemmas
+pub mod MeaningLemmas

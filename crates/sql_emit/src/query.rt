@@ -6,7 +6,9 @@ ghost use Rattle.query_terms.specs.Lists.{heads_in, is_heads};
 ghost use Rattle.query_terms.specs.Spans.{cut, lies};
 ghost use Rattle.query_terms.specs.View.{query_value};
 ghost use Rattle.sql_emit.specs.Text.{query_links, sql_text_of};
+ghost use Rattle.rpq_meaning.specs.QueryRows.{IsQueryRow};
 ghost use Rattle.sql_emit.specs.Laws.{HasReading};
+ghost use Rattle.sql_emit.specs.Rows.{HasRows, HasTables};
 ghost use Rattle.sql_emit.specs.Writing.{link_of, link_rule_in, is_rule_of};
 
 use crate::links::{HeadVars, Link, LinkRule, LinkRules, Links};
@@ -19,6 +21,8 @@ use std::alloc::{AllocError, Global};
 pub fn sql_text(alloc: Global, query: &Query<'_>) -> Result<Vec<u8>, AllocError>
     ensures text { IfOk result (λ text. text.items ≡ sql_text_of (query_value query.now)) }
     ensures reading { IfOk result (λ text. HasReading text.items query.now.terms (query_links (query_value query.now))) }
+    ensures tables { IfOk result (λ text. HasTables text.items query.now.terms) }
+    ensures rows { IfOk result (λ text. HasRows text.items (IsQueryRow (query_value query.now))) }
 {
     let rules = link_rules(alloc, query.conjuncts, query.rules)?;
     links_text(alloc, &query.terms, &rules)

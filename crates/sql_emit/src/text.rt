@@ -4,6 +4,7 @@ ghost use Rattle.std.specs.Prelude.{◌≡◌, true, length, IfOk};
 ghost use Rattle.sql_emit.specs.Rules.{are_link_rules};
 ghost use Rattle.sql_emit.specs.Text.{links_text_of};
 ghost use Rattle.sql_emit.specs.Laws.{HasReading};
+ghost use Rattle.sql_emit.specs.Rows.{HasRows, HasTables, IsLinksRow};
 
 use crate::links::LinkRules;
 use crate::rules::put_rules;
@@ -19,6 +20,8 @@ pub fn links_text(
 ) -> Result<Vec<u8>, AllocError>
     requires { are_link_rules (length terms.now) rules.now ≡ true }
     ensures text { IfOk result (λ text. text.items ≡ links_text_of terms.now rules.now) }
+    ensures tables { IfOk result (λ text. HasTables text.items terms.now) }
+    ensures rows { IfOk result (λ text. HasRows text.items (λ graph row. IsLinksRow graph terms.now rules.now row)) }
     ensures reading { IfOk result (λ text. HasReading text.items terms.now rules.now) }
 {
     let mut out = Vec::new(alloc);
