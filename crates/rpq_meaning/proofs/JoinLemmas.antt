@@ -1,9 +1,12 @@
 -- Growing mappings by the pairs of conjuncts gives exactly the rows of assignments.
-use Rattle.std.proofs.Common.{◌≡◌, ◌≢◌, ◌<◌, ◌≤◌, ◌+◌, ◌⊎◌, ◌↔◌, inl, inr, ℕ, Bool, true, false, not, ◌==◌, ◌&&◌, ◌||◌, if◌then◌else◌, List, [], ◌∷◌, ◌++◌, map, fold, length, drop, slice_index_or, refl, sym, ap, subst, ◌∙◌}
+use Rattle.std.proofs.Common.{◌≡◌, ◌≢◌, ◌<◌, ◌≤◌, ◌+◌, ◌⊎◌, ◌↔◌, inl, inr, ℕ, Bool, true, false, not, ◌==◌, ◌&&◌, ◌||◌, if◌then◌else◌, List, [], ◌∷◌}
+use Rattle.std.proofs.Common.{◌++◌, map, fold, length, drop, slice_index_or, refl, sym, ap, subst, ◌∙◌}
 use Rattle.std.specs.List.{Contains, list_all, list_any, AllByRecursion}
 use Rattle.std.proofs.lemmas.Bool.{and_parts, and_from, or_cases, or_left, or_right, eqb-true, eq-eqb, ne_eqb, cases_Bool, both_ways}
 use Rattle.std.proofs.lemmas.List.{at_drop_more, drop_all}
-use Rattle.graph_text.proofs.MemberLemmas.{Contains-first, Contains-later, Contains-cases, Contains-none, Contains-append_left, Contains-append_right, Contains-append_cases, Contains-flat_map, Contains-from_flat_map, Contains-map, Contains-from_map, list_all-member, list_all-from_members, Contains-list_any}
+use Rattle.graph_text.proofs.MemberLemmas.{Contains-first, Contains-later, Contains-cases, Contains-none, Contains-append_left, Contains-append_right}
+use Rattle.graph_text.proofs.MemberLemmas.{Contains-append_cases, Contains-flat_map, Contains-from_flat_map, Contains-map, Contains-from_map}
+use Rattle.graph_text.proofs.MemberLemmas.{list_all-member, list_all-from_members, Contains-list_any}
 use Rattle.query_terms.specs.declared.terms.Conjunct.{Conjunct}
 use Rattle.rpq_meaning.specs.Tables.{table_in}
 use Rattle.rpq_meaning.specs.Joins.{Mapping, agrees, fits, fits_pair, with_pair, if_fits, grown, grow, mappings, assigned}

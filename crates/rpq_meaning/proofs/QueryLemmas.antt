@@ -1,5 +1,6 @@
 -- The conjuncts of a query, whose terms have the trees of their words, and its rows.
-use Rattle.std.proofs.Common.{◌≡◌, ◌<◌, ◌-◌, ◌↔◌, inl, inr, ℕ, zero, suc, true, ◌==◌, ◌&&◌, ◌||◌, nat_lt, List, [], ◌∷◌, length, map, take, drop, slice_get, Some, option_map, unwrap_or, refl, sym, ap, subst, ◌∙◌, arith}
+use Rattle.std.proofs.Common.{◌≡◌, ◌<◌, ◌-◌, ◌↔◌, inl, inr, ℕ, zero, suc, true, ◌==◌, ◌&&◌, ◌||◌, nat_lt, List, [], ◌∷◌, length, map, take, drop}
+use Rattle.std.proofs.Common.{slice_get, Some, option_map, unwrap_or, refl, sym, ap, subst, ◌∙◌, arith}
 use Rattle.std.specs.List.{Contains, list_all, AllByRecursion, slice_index_or}
 use Rattle.std.proofs.lemmas.Bool.{and_parts, ltb-true}
 use Rattle.std.proofs.lemmas.List.{take-map, drop-map, take_all, length-map}
@@ -7,7 +8,8 @@ use Rattle.std.proofs.lemmas.Option.{slice_get-get_or, slice_get-map}
 use Rattle.std.proofs.lemmas.List.Elements.{Contains-get_or}
 use Rattle.std.proofs.lemmas.List.Folds.{flat_map-map}
 use Rattle.graph_text.specs.declared.graphs.Triple.{Triple}
-use Rattle.graph_text.proofs.MemberLemmas.{Contains-first, Contains-later, Contains-cases, Contains-none, Contains-map, Contains-from_map, Contains-flat_map, Contains-from_flat_map, list_all-member}
+use Rattle.graph_text.proofs.MemberLemmas.{Contains-first, Contains-later, Contains-cases, Contains-none, Contains-map, Contains-from_map}
+use Rattle.graph_text.proofs.MemberLemmas.{Contains-flat_map, Contains-from_flat_map, list_all-member}
 use Rattle.gm_text.specs.declared.lists.Span.{Span}
 use Rattle.sel_algebra.specs.declared.vocabulary.Symbol.{Symbol}
 use Rattle.query_terms.specs.declared.terms.Term.{Term}

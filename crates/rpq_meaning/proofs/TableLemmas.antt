@@ -1,5 +1,6 @@
 -- The lists of terms have exactly the pairs of the terms' paths.
-use Rattle.std.proofs.Common.{◌≡◌, ◌<◌, ◌≤◌, ◌+◌, inl, inr, ℕ, zero, suc, Bool, true, false, ◌==◌, ◌&&◌, List, [], ◌∷◌, ◌++◌, length, take, fold, slice_get, Some, refl, sym, ap, subst, ◌∙◌, arith}
+use Rattle.std.proofs.Common.{◌≡◌, ◌<◌, ◌≤◌, ◌+◌, inl, inr, ℕ, zero, suc, Bool, true, false, ◌==◌, ◌&&◌, List, [], ◌∷◌, ◌++◌, length, take, fold}
+use Rattle.std.proofs.Common.{slice_get, Some, refl, sym, ap, subst, ◌∙◌, arith}
 use Rattle.std.specs.List.{Contains, list_any}
 use Rattle.std.proofs.lemmas.Bool.{and_parts, and_from, or_cases, or_left, or_right, eqb-true, eq-eqb, cases_lt}
 use Rattle.std.proofs.lemmas.List.{take_more, get_or_push, get_or_append_left, length-append, length-take-le}
@@ -18,7 +19,8 @@ use Rattle.query_terms.specs.declared.terms.Term.TheVariants.{Step, Seq, Alt, St
 use Rattle.query_terms.specs.Store.{ChildrenBelow, IsStore}
 use Rattle.query_terms.specs.Trees.{tree_in, tree_of, with_tree}
 use Rattle.rpq_meaning.specs.QueryRows.{ArePairs}
-use Rattle.rpq_meaning.specs.Tables.{AreNodes, select, is_pair, has, leads, is_step, passes_by, joins, has_either, has_or_same, further, rounds, table_in, table_of, with_table, tables_of, AreTables}
+use Rattle.rpq_meaning.specs.Tables.{AreNodes, select, is_pair, has, leads, is_step, passes_by, joins, has_either, has_or_same, further, rounds}
+use Rattle.rpq_meaning.specs.Tables.{table_in, table_of, with_table, tables_of, AreTables}
 use Rattle.rpq_meaning.proofs.SelectLemmas.{select-from, select-has}
 
 -- ---- a list has a pair

@@ -1,7 +1,8 @@
 //! What a SQL text says.
 
-ghost use Rattle.std.specs.Prelude.{◌≡◌, ◌<◌, ◌≤◌, length, slice_get, Some, IfOk};
-ghost use Rattle.sql_read.specs.Kept.{ReadingFits};
+ghost use Rattle.std.specs.Prelude.{◌≡◌, ◌<◌, ◌≤◌, true, length, slice_get, Some, IfOk};
+ghost use Rattle.sql_read.specs.Conditions.{holds};
+ghost use Rattle.sql_read.specs.Kept.{ReadingFits, reading_in};
 ghost use Rattle.sql_read.specs.Parsed.{entries, kept_of};
 ghost use Rattle.sql_read.specs.Whole.{IsWhole};
 
@@ -157,6 +158,7 @@ pub(crate) fn keep<'a>(
     last: Span,
 ) -> Result<SqlQuery<'a>, AllocError>
     requires fits { ReadingFits last (kept_of lists.now) }
+    requires conditions { holds (reading_in last (kept_of lists.now)) ≡ true }
     requires few { entries lists.now ≤ 16777216 }
     ensures { IfOk result (λ q. q ≡ record { kept = kept_of lists.now; last = last }) }
 {

@@ -15,13 +15,14 @@ term_pairs-requires c = inside_all _ c.args.query.now.conjuncts.now c.args.query
 pub returns-clause-words : goal.returns-clause-words
 returns-clause-words c =
     let q = c.args.query.now in
+    let tree_is = value_at q.labels.now q.symbols.now q.words.now q.conjuncts.now q.rules.now q.terms q.rules_cover q.rules_are q.terms_are q.numbers_are in
     IfOk-weaker c.term_pairs.result _ _
-    (λ pairs is v at a b. subst (λ p. Contains pairs (a, b) ↔ Pairs p c.args.graph.now a b)
-    (value_at q.labels.now q.symbols.now q.words.now q.conjuncts.now q.rules.now q.terms q.rules_cover q.rules_are q.terms_are q.numbers_are c.args.i c.index-query-i.result v c.requires at)
-    (is a b)) c.term_pairs.ensures.pairs
+    (λ pairs is v at a b. subst (λ p. Contains pairs (a, b) ↔ Pairs p c.args.graph.now a b) (tree_is c.args.i c.index-query-i.result v c.requires at) (is a b))
+    c.term_pairs.ensures.pairs
 
 pub returns-clause-term : goal.returns-clause-term
 returns-clause-term c =
+    let q = c.args.query.now in
     IfOk-weaker c.term_pairs.result _ _
-    (λ pairs is d at. subst (λ d. ArePairs c.args.graph.now (tree_at c.args.query.now.terms d.term) pairs) (get_or_from_slice_get c.args.query.now.conjuncts.now c.args.i d c.index-query-i.result at) is)
+    (λ pairs is d at. subst (λ e. ArePairs c.args.graph.now (tree_at q.terms e.term) pairs) (get_or_from_slice_get q.conjuncts.now c.args.i d c.index-query-i.result at) is)
     c.term_pairs.ensures.pairs

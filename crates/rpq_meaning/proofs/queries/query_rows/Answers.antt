@@ -10,7 +10,8 @@ use Rattle.rpq_meaning.proofs.queries.query_rows.Goals as goal
 pub rows_of-requires-clause-terms : goal.rows_of-requires-clause-terms
 rows_of-requires-clause-terms c k d within =
     let q = c.args.query.now in
-    omega (arith, inside_all (length q.terms) q.conjuncts.now q.terms_lie _ (Contains-get_or q.conjuncts.now k d within), ap length c.as_slice-2.ensures.value, c.in_ok-tables.ensures.many)
+    let inside = inside_all (length q.terms) q.conjuncts.now q.terms_lie _ (Contains-get_or q.conjuncts.now k d within) in
+    omega (arith, inside, ap length c.as_slice-2.ensures.value, c.in_ok-tables.ensures.many)
 
 pub rows_of-requires-clause-rules : goal.rows_of-requires-clause-rules
 rows_of-requires-clause-rules c =

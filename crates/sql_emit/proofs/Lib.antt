@@ -1,0 +1,15 @@
+pub mod Spelling
+pub mod SpellingLemmas
+pub mod Pieces
+pub mod PieceLemmas
+pub mod TextLemmas
+pub mod HoldsLemmas
+pub mod GoodLemmas
+pub mod ReadingLemmas
+pub mod WriteLemmas
+pub mod QueryLemmas
+pub mod PairLemmas
+pub mod TableLemmas
+pub mod RuleLemmas
+pub mod LinkLemmas
+pub mod MeaningLemmas

@@ -1,0 +1,34 @@
+//! The texts.
+
+ghost use Rattle.std.specs.Prelude.{◌≡◌, true, length, IfOk};
+ghost use Rattle.sql_emit.specs.Rules.{are_link_rules};
+ghost use Rattle.sql_emit.specs.Text.{links_text_of};
+ghost use Rattle.sql_emit.specs.Laws.{HasReading};
+ghost use Rattle.sql_emit.specs.Rows.{HasRows, HasTables, IsLinksRow};
+
+use crate::links::LinkRules;
+use crate::rules::put_rules;
+use crate::tables::put_tables;
+use query_terms::TermStore;
+use std::alloc::{AllocError, Global};
+
+/// The text of the tables of terms, and of rules over them.
+pub fn links_text(
+    alloc: Global,
+    terms: &TermStore<'_>,
+    rules: &LinkRules,
+) -> Result<Vec<u8>, AllocError>
+    requires { are_link_rules (length terms.now) rules.now ≡ true }
+    ensures text { IfOk result (λ text. text.items ≡ links_text_of terms.now rules.now) }
+    ensures tables { IfOk result (λ text. HasTables text.items terms.now) }
+    ensures rows { IfOk result (λ text. HasRows text.items (λ graph row. IsLinksRow graph terms.now rules.now row)) }
+    ensures reading { IfOk result (λ text. HasReading text.items terms.now rules.now) }
+{
+    let mut out = Vec::new(alloc);
+    out.extend_from_slice(b"WITH RECURSIVE\n")?;
+    put_tables(alloc, &mut out, terms)?;
+    out.extend_from_slice(b"\n")?;
+    put_rules(alloc, &mut out, rules)?;
+    out.extend_from_slice(b"\n")?;
+    Ok(out)
+}

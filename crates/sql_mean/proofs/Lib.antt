@@ -1,0 +1,4 @@
+pub mod NameLemmas
+pub mod SelectLemmas
+pub mod EvaluationLemmas
+pub mod KnownLemmas

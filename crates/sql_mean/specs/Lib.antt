@@ -1,0 +1,4 @@
+pub mod Selects
+pub mod Tables
+pub mod Rows
+pub mod Evaluation
