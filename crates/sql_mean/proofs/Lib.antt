@@ -2,3 +2,4 @@ pub mod NameLemmas
 pub mod SelectLemmas
 pub mod EvaluationLemmas
 pub mod KnownLemmas
+pub mod LoopLemmas

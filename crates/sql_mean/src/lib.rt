@@ -6,8 +6,8 @@
 
 mod known;
 //ROWS
-//SEL
-//TAB
+mod selects;
+mod tables;
 mod tuples;
 mod values;
 
