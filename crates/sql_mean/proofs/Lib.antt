@@ -3,3 +3,4 @@ pub mod SelectLemmas
 pub mod EvaluationLemmas
 pub mod KnownLemmas
 pub mod LoopLemmas
+pub mod RoundLemmas

@@ -83,3 +83,47 @@ fn next_round<'a>(
     join(&mut all, more)?;
     Ok(all)
 }
+
+/// The rows of a table that takes from itself: those of the first round that the next one leaves as they are.
+fn rounds<'a>(
+    alloc: Global,
+    query: &SqlQuery<'a>,
+    known: &mut Vec<Known<'a>>,
+    table: Table<'a>,
+) -> Result<Vec<Tuple>, AllocError>
+    requires { TableFits table query.now.kept }
+    ensures rows { IfOk result (λ rows. IsStableList known.old.items (table_in table.entry query.now.kept) rows.items) }
+    ensures known { OnOk result (known.new.items ≡ known.old.items) }
+{
+    let selects = cut(query.selects(), table.body);
+    let (base, last) = selects.split_at(selects.len().saturating_sub(1));
+    let mut rows = Vec::new(alloc);
+    join(&mut rows, union_rows(alloc, query, known, base)?)?;
+    loop {
+        let before = rows.len();
+        rows = next_round(alloc, query, known, table, last, rows)?;
+        if rows.len() == before {
+            return Ok(rows);
+        }
+    }
+}
+
+/// The rows of a table.
+fn table_rows<'a>(
+    alloc: Global,
+    query: &SqlQuery<'a>,
+    known: &mut Vec<Known<'a>>,
+    table: Table<'a>,
+) -> Result<Vec<Tuple>, AllocError>
+    requires { TableFits table query.now.kept }
+    ensures rows { IfOk result (λ rows. IsTableList known.old.items (table_in table.entry query.now.kept) rows.items) }
+    ensures known { OnOk result (known.new.items ≡ known.old.items) }
+{
+    let selects = cut(query.selects(), table.body);
+    if some_takes(query, selects, table.name) {
+        return rounds(alloc, query, known, table);
+    }
+    let mut rows = Vec::new(alloc);
+    join(&mut rows, union_rows(alloc, query, known, selects)?)?;
+    Ok(rows)
+}
