@@ -4,3 +4,4 @@ pub mod EvaluationLemmas
 pub mod KnownLemmas
 pub mod LoopLemmas
 pub mod RoundLemmas
+pub mod AllLemmas

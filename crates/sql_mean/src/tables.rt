@@ -5,7 +5,7 @@ ghost use Rattle.std.specs.List.{list_any};
 ghost use Rattle.sql_read.specs.Grammar as said;
 ghost use Rattle.sql_read.specs.Kept.{Kept, AllFit, QueryFits, TableFits, query_in, table_in};
 ghost use Rattle.sql_read.specs.View.{name_view};
-ghost use Rattle.sql_read.specs.Whole.{reading_of};
+ghost use Rattle.sql_read.specs.Whole.{IsWhole, reading_of};
 ghost use Rattle.sql_mean.specs.Tables.{takes_from, takes_itself, base, last_select};
 ghost use Rattle.sql_mean.specs.Rows.{edge_row, headers_of, Has};
 ghost use Rattle.sql_mean.specs.Evaluation.{KnownValue, KnownAs, union_list, joined, so_far, round_list, IsStableList, IsTableList};
@@ -126,4 +126,25 @@ fn table_rows<'a>(
     let mut rows = Vec::new(alloc);
     join(&mut rows, union_rows(alloc, query, known, selects)?)?;
     Ok(rows)
+}
+
+/// All tables, the newest first.
+pub(crate) fn all_tables<'a>(
+    alloc: Global,
+    query: &SqlQuery<'a>,
+    graph: &Graph,
+) -> Result<Vec<Known<'a>>, AllocError>
+    requires { IsWhole query.now }
+    ensures { IfOk result (λ known. KnownAs known.items (headers_of (reading_of query.now)) (Has (reading_of query.now) graph.now)) }
+{
+    let edges = edge_rows(alloc, graph.as_slice())?;
+    let mut known = Vec::new(alloc);
+    known.push(Known::new(b"edge", EDGE_COLUMNS, edges))?;
+    for i in 0..query.table_count() {
+        let table = query.table(i);
+        let rows = table_rows(alloc, query, &mut known, table)?;
+        let columns = cut(query.names(), table.columns);
+        known.insert(0, Known::new(table.name, columns, rows))?;
+    }
+    Ok(known)
 }
