@@ -1,5 +1,5 @@
 -- All tables of a text, one after the other.
-use Rattle.std.proofs.Common.{◌≡◌, ◌↔◌, ℕ, zero, suc, Bool, true, false, if◌then◌else◌, bytes_eq, MatchBool, codes, Option, Some, unwrap_or, List, [], ◌∷◌, map, take, slice_get, option_map, refl, sym, ap, subst, ◌∙◌}
+use Rattle.std.proofs.Common.{◌≡◌, ◌↔◌, ℕ, zero, suc, Bool, true, false, if◌then◌else◌, bytes_eq, MatchBool, codes, Some, unwrap_or, List, [], ◌∷◌, map, take, slice_get, refl, sym, ap, subst}
 use Rattle.std.specs.List.{Contains}
 use Rattle.graph_text.specs.declared.graphs.Triple.{Triple}
 use Rattle.graph_text.proofs.MemberLemmas.{Contains-none, Contains-map, Contains-from_map}
@@ -7,7 +7,7 @@ use Rattle.sql_read.specs.Grammar.{Table}
 use Rattle.sql_read.specs.Conditions.{Header, edge_header, header_of, headers_after}
 use Rattle.sql_mean.specs.Tables.{With, IsTableRow, After}
 use Rattle.sql_mean.specs.Rows.{edge_row, IsEdgeRow, AtFirst}
-use Rattle.sql_mean.specs.Evaluation.{KnownValue, rows_under, KnownAs, so_far, IsTableList}
+use Rattle.sql_mean.specs.Evaluation.{KnownValue, KnownAs, so_far, IsTableList}
 use Rattle.sql_mean.proofs.KnownLemmas.{known_more, table_are}
 
 -- the table of the edges

@@ -1,5 +1,5 @@
 -- The lists over known tables have exactly the rows, and so many rows at most.
-use Rattle.std.proofs.Common.{◌≡◌, ◌↔◌, ◌<◌, ◌≤◌, ◌⊎◌, inl, inr, ℕ, zero, suc, ◌+◌, ◌-◌, Bool, true, false, if◌then◌else◌, bytes_eq, MatchBool, Option, Some, None, List, [], ◌∷◌, ◌++◌, map, fold, length, take, drop, refl, sym, ap, subst, ◌∙◌, arith}
+use Rattle.std.proofs.Common.{◌≡◌, ◌↔◌, ◌≤◌, inl, inr, ℕ, zero, suc, ◌-◌, Bool, true, false, if◌then◌else◌, bytes_eq, MatchBool, Option, Some, None, List, [], ◌∷◌, map, length, take, drop, sym, ap, subst, ◌∙◌, arith}
 use Rattle.std.specs.List.{Contains, IsDistinct, flat_map}
 use Rattle.std.proofs.lemmas.Bool.{MatchBool-at_true, MatchBool-at_false, cases_Bool}
 use Rattle.std.proofs.lemmas.Cmp.{nat_list_eq_equiv}
@@ -11,7 +11,7 @@ use Rattle.sql_read.specs.Grammar.{Col, Source, Query, Table}
 use Rattle.sql_read.specs.Conditions.{Header, header_of, columns_of}
 use Rattle.sql_mean.specs.Selects.{IsProduct, value_in, value_under, value_of, IsSelectRow, IsUnionRow}
 use Rattle.sql_mean.specs.Tables.{With, takes_itself, base, last_select, InRound, AddsNothing, IsStableRow, IsTableRow}
-use Rattle.sql_mean.specs.Evaluation.{KnownValue, headers_in, rows_under, KnownAs, select_list, union_list, joined, so_far, round_list, IsStableList, IsTableList}
+use Rattle.sql_mean.specs.Evaluation.{KnownValue, headers_in, rows_under, KnownAs, union_list, joined, so_far, round_list, IsStableList, IsTableList}
 use Rattle.sql_mean.proofs.SelectLemmas.{plain_row, from_plain, round_row, from_rounds}
 use Rattle.sql_mean.proofs.EvaluationLemmas.{joined-cases, joined-keeps, joined-has, joined-distinct, union-from, union-has, union-more, stable_has_all}
 

@@ -1,7 +1,6 @@
 -- A table in rounds: the first, the next, and that rounds end.
-use Rattle.std.proofs.Common.{◌≡◌, ◌<◌, ◌≤◌, ◌-◌, inl, inr, ℕ, zero, suc, List, [], ◌∷◌, map, take, drop, length, refl, sym, ap, subst, ◌∙◌, arith}
+use Rattle.std.proofs.Common.{◌≡◌, ◌<◌, ◌≤◌, ◌-◌, inl, inr, ℕ, zero, suc, List, [], ◌∷◌, map, take, drop, length, sym, ap, ◌∙◌, arith}
 use Rattle.std.proofs.lemmas.Bool.{cases_lt}
-use Rattle.sql_read.specs.Grammar.{Query}
 use Rattle.sql_read.specs.Kept.{Kept, cut, query_in, table_in}
 use Rattle.sql_read.specs.declared.query.Select.{Select}
 use Rattle.sql_read.specs.declared.query.Table.{Table}

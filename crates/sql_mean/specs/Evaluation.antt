@@ -7,7 +7,7 @@
 --   joined kept rows                   the rows that are kept, and each other row once
 --   round_list known t k               the rows of a table after k rounds
 --   IsTableList known t rows           the list of a table's rows
-use Rattle.std.specs.Prelude.{◌≡◌, ◌↔◌, ℕ, zero, suc, Bool, ◌==◌, if◌then◌else◌, bytes_eq, MatchBool, List, [], ◌∷◌, ◌++◌, map, fold, length, Contains}
+use Rattle.std.specs.Prelude.{◌≡◌, ◌↔◌, ℕ, zero, suc, Bool, ◌==◌, if◌then◌else◌, bytes_eq, MatchBool, List, [], ◌∷◌, ◌++◌, map, fold, Contains}
 use Rattle.std.specs.Borrow.{Bor}
 use Rattle.std.specs.List.{flat_map, list_all, list_any}
 use Rattle.sql_read.specs.Grammar.{Source, Equation, Query, Table}

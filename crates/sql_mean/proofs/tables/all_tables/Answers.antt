@@ -1,4 +1,4 @@
-use Rattle.std.proofs.Common.{◌≡◌, suc, ◌+◌, Some, slice_get, option_map, List, [], ◌∷◌, ◌++◌, map, take, sym, ap, subst, ◌∙◌, arith}
+use Rattle.std.proofs.Common.{◌≡◌, suc, ◌+◌, Some, slice_get, option_map, [], ◌∷◌, ◌++◌, map, take, sym, ap, subst, ◌∙◌, arith}
 use Rattle.std.specs.List.{insert}
 use Rattle.std.proofs.lemmas.Option.{slice_get-map}
 use Rattle.sql_read.specs.Conditions.{edge_header, headers_after}
@@ -7,7 +7,7 @@ use Rattle.sql_read.specs.View.{name_view}
 use Rattle.sql_read.specs.Whole.{reading_of}
 use Rattle.sql_mean.specs.Rows.{edge_row, AtFirst}
 use Rattle.sql_mean.specs.Tables.{After}
-use Rattle.sql_mean.specs.Evaluation.{KnownValue, KnownAs, so_far}
+use Rattle.sql_mean.specs.Evaluation.{KnownAs, so_far}
 use Rattle.sql_mean.proofs.LoopLemmas.{fit_at}
 use Rattle.sql_mean.proofs.AllLemmas.{edge_known, known_first, known_next}
 use Rattle.sql_mean.proofs.tables.all_tables.Goals as goal
