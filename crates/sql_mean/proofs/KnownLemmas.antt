@@ -17,7 +17,8 @@ use Rattle.sql_mean.proofs.EvaluationLemmas.{joined-cases, joined-keeps, joined-
 
 -- ---- one table more
 
-pub known_more : (known : List KnownValue) (headers : List Header) (Has : List ℕ → List ℕ → Type 0) → KnownAs known headers Has → (t : Table) (rows : List (List ℕ)) (IsRow : List ℕ → Type 0)
+pub known_more : (known : List KnownValue) (headers : List Header) (Has : List ℕ → List ℕ → Type 0) → KnownAs known headers Has → (t : Table) (rows : List (List ℕ))
+    → (IsRow : List ℕ → Type 0)
     → ((row : List ℕ) → Contains rows row ↔ IsRow row) → KnownAs (so_far t rows ∷ known) (header_of t ∷ headers) (With Has t.name IsRow)
 known_more known headers Has are t rows IsRow rows_are =
     record { columns = ap (λ hs. header_of t ∷ hs) are.columns; rows = λ name row. go name row (bytes_eq t.name name) }
@@ -216,7 +217,8 @@ module _ (known : List KnownValue) (t : Table) where
             (λ q among. Contains-drop (length t.body - 1) t.body q among) row is
       ]
     where
-      go : (name r : List ℕ) (b : Bool) → (Contains (round_list known t k) r → Within (Contains numbers) r) → Contains (if b then round_list known t k else rows_under known name) r → Within (Contains numbers) r
+      go : (name r : List ℕ) (b : Bool) → (Contains (round_list known t k) r → Within (Contains numbers) r)
+          → Contains (if b then round_list known t k else rows_under known name) r → Within (Contains numbers) r
       go name r true own has = own has
       go name r false own has = numbers_in-has known name r has
 

@@ -32,7 +32,12 @@ module _ (known : List KnownValue) (t : Table) (kept : Kept) (k : ℕ) (rows all
     (next : all ≡ round_list known (table_in t kept) (suc k)) where
   rounds_grow : length rows ≤ length all
   unfolding round_list
-  rounds_grow = omega (arith, ap length made, ap length next, joined-long (union_list (so_far (table_in t kept) (round_list known (table_in t kept) k) ∷ known) (last_select (table_in t kept))) (round_list known (table_in t kept) k))
+  rounds_grow = omega (
+    arith,
+    ap length made,
+    ap length next,
+    joined-long (union_list (so_far (table_in t kept) (round_list known (table_in t kept) k) ∷ known) (last_select (table_in t kept))) (round_list known (table_in t kept) k),
+  )
 
   pub fewer_left : (length all ≡ length rows → ⊥) → length (candidates known (table_in t kept)) - length all < length (candidates known (table_in t kept)) - length rows
   fewer_left differ =

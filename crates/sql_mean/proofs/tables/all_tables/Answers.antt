@@ -40,4 +40,5 @@ loop-i-preserved c =
     c.in_ok-insert.ensures.items ∙ (λ i. insert (c.in_ok-rows.ensures.known i) 0 (c.new-in-loop-i.ensures i))
     ∙ ap (λ cs. record { name = t.name; columns = cs; rows = c.in_ok-rows.rows.items } ∷ c.loop-i.known.items) columns in
     subst (λ known. KnownAs known (headers_after (edge_header ∷ []) (take (c.loop-i.i + 1) tables)) (After (edge_header ∷ []) (AtFirst c.args.graph.now) (take (c.loop-i.i + 1) tables)))
-    (sym known) (subst (λ n. KnownAs (so_far t c.in_ok-rows.rows.items ∷ c.loop-i.known.items) (headers_after (edge_header ∷ []) (take n tables)) (After (edge_header ∷ []) (AtFirst c.args.graph.now) (take n tables))) count more)
+    (sym known)
+    (subst (λ n. KnownAs (so_far t c.in_ok-rows.rows.items ∷ c.loop-i.known.items) (headers_after (edge_header ∷ []) (take n tables)) (After (edge_header ∷ []) (AtFirst c.args.graph.now) (take n tables))) count more)

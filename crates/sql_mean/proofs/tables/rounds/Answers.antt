@@ -15,7 +15,11 @@ loop-rows-init c =
     let made = c.in_ok-join.ensures ∙ ap (joined c.new-rows.result.items) more in
     record {
       known = refl;
-      made = (0, first_round c.args.query.now.kept c.args.table c.saturating_sub.result count c.args.known.now.items c.split_at.result.0.now front c.join.new.rows.items c.new-rows.result.items c.new-rows.ensures.items made);
+      made = (
+        0,
+        first_round c.args.query.now.kept c.args.table c.saturating_sub.result count c.args.known.now.items c.split_at.result.0.now front
+            c.join.new.rows.items c.new-rows.result.items c.new-rows.ensures.items made,
+      );
     }
 
 pub returns-then-len-before-clause-rows : goal.returns-then-len-before-clause-rows
