@@ -1,21 +1,17 @@
 -- The lists have exactly the rows of selects and of tables.
-use Rattle.std.proofs.Common.{◌≡◌, ◌↔◌, ◌<◌, ◌≤◌, ◌⊎◌, inl, inr, ℕ, zero, suc, ◌+◌, ◌-◌, Bool, true, false, ◌==◌, if◌then◌else◌, bytes_eq, MatchBool, Option, Some, None, List, [], ◌∷◌, ◌++◌, map, fold, length, refl, sym, ap, subst, ◌∙◌, arith}
-use Rattle.std.specs.List.{Contains, AllByRecursion, IsDistinct, flat_map, list_all, list_any}
-use Rattle.std.specs.Set.{is_member}
-use Rattle.std.proofs.lemmas.Bool.{and_parts, and_from, cases_Bool, both_ways, eqb-true, eq-eqb, MatchBool-at_true, MatchBool-at_false}
+use Rattle.std.proofs.Common.{◌≡◌, ◌≤◌, ◌⊎◌, inl, inr, ℕ, zero, suc, Bool, true, false, if◌then◌else◌, bytes_eq, MatchBool, List, [], ◌∷◌, ◌++◌, fold, length, refl, sym, ap, subst, ◌∙◌, arith}
+use Rattle.std.specs.List.{Contains, AllByRecursion, IsDistinct, list_all, list_any}
+use Rattle.std.proofs.lemmas.Bool.{and_parts, and_from, eqb-true, eq-eqb}
 use Rattle.std.proofs.lemmas.Cmp.{nat_list_eq_equiv}
 use Rattle.std.proofs.lemmas.List.{length-append, append-nil, append_assoc}
 use Rattle.std.proofs.lemmas.Map.Keys.{IsDistinct-push}
-use Rattle.std.proofs.lemmas.Map.Made.{length-le_from_is_member, is_member-Decides}
-use Rattle.std.proofs.lemmas.Slice.Eq.{bytes_eq-Decides}
-use Rattle.graph_text.proofs.MemberLemmas.{Contains-first, Contains-later, Contains-cases, Contains-none, Contains-append_left, Contains-append_right, Contains-append_cases, Contains-flat_map, Contains-from_flat_map, list_any-Contains, Contains-list_any, Contains-map, Contains-from_map}
-use Rattle.sql_read.specs.Grammar.{Col, Source, Equation, Query, Table}
-use Rattle.sql_read.specs.Conditions.{Header, header_of, columns_of}
-use Rattle.sql_mean.specs.Selects.{IsProduct, value_in, value_under, value_of, Meets, projected, IsSelectRow, IsUnionRow}
-use Rattle.sql_mean.specs.Tables.{With, takes_itself, base, last_select, InRound, AddsNothing, IsStableRow, IsTableRow}
-use Rattle.sql_mean.specs.Evaluation.{KnownValue, headers_in, rows_under, KnownAs, with_row, with_each, grow, products, is_met, if_met, select_list, union_list, join_row, joined, so_far, round_list, IsStableList, IsTableList}
-use Rattle.sql_mean.proofs.NameLemmas.{same_name, names_are, with_here, from_here, with_there, from_there}
-use Rattle.sql_mean.proofs.SelectLemmas.{plain_row, from_plain, round_row, from_rounds}
+use Rattle.graph_text.proofs.MemberLemmas.{Contains-first, Contains-later, Contains-cases, Contains-none, Contains-append_left, Contains-append_right, Contains-append_cases, Contains-flat_map, Contains-from_flat_map, Contains-list_any, Contains-map, Contains-from_map}
+use Rattle.sql_read.specs.Grammar.{Source, Equation, Query, Table}
+use Rattle.sql_read.specs.Conditions.{Header, header_of}
+use Rattle.sql_mean.specs.Selects.{IsProduct, Meets, projected, IsSelectRow, IsUnionRow}
+use Rattle.sql_mean.specs.Tables.{With, last_select, InRound, AddsNothing}
+use Rattle.sql_mean.specs.Evaluation.{KnownValue, headers_in, rows_under, with_row, with_each, grow, products, is_met, if_met, select_list, union_list, join_row, joined}
+use Rattle.sql_mean.proofs.NameLemmas.{names_are}
 
 -- ---- rows that are kept once
 

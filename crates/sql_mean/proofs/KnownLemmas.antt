@@ -1,5 +1,5 @@
 -- The lists over known tables have exactly the rows, and so many rows at most.
-use Rattle.std.proofs.Common.{◌≡◌, ◌↔◌, ◌<◌, ◌≤◌, ◌⊎◌, inl, inr, ℕ, zero, suc, ◌+◌, ◌-◌, Bool, true, false, if◌then◌else◌, bytes_eq, MatchBool, Option, Some, None, List, [], ◌∷◌, ◌++◌, map, fold, length, take, drop, refl, sym, ap, subst, ◌∙◌, arith}
+use Rattle.std.proofs.Common.{◌≡◌, ◌↔◌, ◌≤◌, inl, inr, ℕ, zero, suc, ◌-◌, Bool, true, false, if◌then◌else◌, bytes_eq, MatchBool, Option, Some, None, List, [], ◌∷◌, map, length, take, drop, sym, ap, subst, ◌∙◌, arith}
 use Rattle.std.specs.List.{Contains, IsDistinct, flat_map}
 use Rattle.std.proofs.lemmas.Bool.{MatchBool-at_true, MatchBool-at_false, cases_Bool}
 use Rattle.std.proofs.lemmas.Cmp.{nat_list_eq_equiv}
@@ -11,13 +11,14 @@ use Rattle.sql_read.specs.Grammar.{Col, Source, Query, Table}
 use Rattle.sql_read.specs.Conditions.{Header, header_of, columns_of}
 use Rattle.sql_mean.specs.Selects.{IsProduct, value_in, value_under, value_of, IsSelectRow, IsUnionRow}
 use Rattle.sql_mean.specs.Tables.{With, takes_itself, base, last_select, InRound, AddsNothing, IsStableRow, IsTableRow}
-use Rattle.sql_mean.specs.Evaluation.{KnownValue, headers_in, rows_under, KnownAs, select_list, union_list, joined, so_far, round_list, IsStableList, IsTableList}
+use Rattle.sql_mean.specs.Evaluation.{KnownValue, headers_in, rows_under, KnownAs, union_list, joined, so_far, round_list, IsStableList, IsTableList}
 use Rattle.sql_mean.proofs.SelectLemmas.{plain_row, from_plain, round_row, from_rounds}
 use Rattle.sql_mean.proofs.EvaluationLemmas.{joined-cases, joined-keeps, joined-has, joined-distinct, union-from, union-has, union-more, stable_has_all}
 
 -- ---- one table more
 
-pub known_more : (known : List KnownValue) (headers : List Header) (Has : List ℕ → List ℕ → Type 0) → KnownAs known headers Has → (t : Table) (rows : List (List ℕ)) (IsRow : List ℕ → Type 0)
+pub known_more : (known : List KnownValue) (headers : List Header) (Has : List ℕ → List ℕ → Type 0) → KnownAs known headers Has → (t : Table) (rows : List (List ℕ))
+    → (IsRow : List ℕ → Type 0)
     → ((row : List ℕ) → Contains rows row ↔ IsRow row) → KnownAs (so_far t rows ∷ known) (header_of t ∷ headers) (With Has t.name IsRow)
 known_more known headers Has are t rows IsRow rows_are =
     record { columns = ap (λ hs. header_of t ∷ hs) are.columns; rows = λ name row. go name row (bytes_eq t.name name) }
@@ -216,7 +217,8 @@ module _ (known : List KnownValue) (t : Table) where
             (λ q among. Contains-drop (length t.body - 1) t.body q among) row is
       ]
     where
-      go : (name r : List ℕ) (b : Bool) → (Contains (round_list known t k) r → Within (Contains numbers) r) → Contains (if b then round_list known t k else rows_under known name) r → Within (Contains numbers) r
+      go : (name r : List ℕ) (b : Bool) → (Contains (round_list known t k) r → Within (Contains numbers) r)
+          → Contains (if b then round_list known t k else rows_under known name) r → Within (Contains numbers) r
       go name r true own has = own has
       go name r false own has = numbers_in-has known name r has
 

@@ -1,10 +1,9 @@
 -- Selects from one table and from two, and unions of one select and of two.
-use Rattle.std.proofs.Common.{◌≡◌, ◌⊎◌, inl, inr, ℕ, Bool, true, false, bytes_eq, Option, Some, None, List, [], ◌∷◌, map, refl, sym, ap, subst, ◌∙◌}
-use Rattle.std.specs.List.{Contains, AllByRecursion}
+use Rattle.std.proofs.Common.{◌≡◌, ◌⊎◌, inl, inr, ℕ, true, false, bytes_eq, Some, List, [], ◌∷◌, refl, sym, subst}
 use Rattle.graph_text.proofs.MemberLemmas.{Contains-first, Contains-later, Contains-cases, Contains-none}
 use Rattle.sql_read.specs.Grammar.{Col, Source, Query, Table}
 use Rattle.sql_read.specs.Conditions.{Header, columns_of}
-use Rattle.sql_mean.specs.Selects.{IsProduct, value_in, value_of, IsSelectRow, IsUnionRow}
+use Rattle.sql_mean.specs.Selects.{value_in, value_of, IsSelectRow, IsUnionRow}
 use Rattle.sql_mean.specs.Tables.{takes_itself, IsStableRow, IsTableRow}
 use Rattle.std.proofs.lemmas.Bool.{MatchBool-at_true, MatchBool-at_false}
 use Rattle.sql_mean.proofs.NameLemmas.{choose, choose_else}

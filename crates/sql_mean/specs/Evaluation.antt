@@ -7,10 +7,15 @@
 --   joined kept rows                   the rows that are kept, and each other row once
 --   round_list known t k               the rows of a table after k rounds
 --   IsTableList known t rows           the list of a table's rows
-use Rattle.std.specs.Prelude.{◌≡◌, ◌↔◌, ℕ, zero, suc, Bool, ◌==◌, if◌then◌else◌, bytes_eq, MatchBool, List, [], ◌∷◌, ◌++◌, map, fold, length, Contains}
+use Rattle.std.specs.Prelude.{◌≡◌, ◌↔◌, ℕ, zero, suc, Bool, ◌==◌, if◌then◌else◌, bytes_eq, MatchBool, List, [], ◌∷◌, ◌++◌, map, fold, Contains}
+use Rattle.std.specs.Borrow.{Bor}
 use Rattle.std.specs.List.{flat_map, list_all, list_any}
 use Rattle.sql_read.specs.Grammar.{Source, Equation, Query, Table}
 use Rattle.sql_read.specs.Conditions.{Header}
+use Rattle.sql_read.specs.View.{col_view, source_view, equation_view}
+use Rattle.sql_read.specs.declared.query.Col.{Col}
+use Rattle.sql_read.specs.declared.query.SqlFrom.{SqlFrom}
+use Rattle.sql_read.specs.declared.query.Equation.{Equation as CodeEquation}
 use Rattle.sql_mean.specs.Selects.{value_of, right_value, projected}
 use Rattle.sql_mean.specs.Tables.{takes_itself, base, last_select}
 
@@ -37,6 +42,10 @@ pub record KnownAs (known : List KnownValue) (headers : List Header) (Has : List
   pub columns : headers_in known ≡ headers
   pub rows : (name row : List ℕ) → Contains (rows_under known name) row ↔ Has name row
 
+-- the numbers of a row
+abbrev pub row_view : Bor (List ℕ) → List ℕ
+row_view row = row.now
+
 -- a row of the product so far with one row more
 abbrev pub with_row : List (List ℕ) → List ℕ → List (List ℕ)
 with_row product row = product ++ row ∷ []
@@ -60,6 +69,10 @@ is_met headers sources product e = value_of headers sources product e.left == ri
 -- the row, where the equations are met
 abbrev pub if_met : List Header → Query → List (List ℕ) → List (List ℕ)
 if_met headers q product = if list_all (is_met headers q.sources product) q.equations then projected headers q product ∷ [] else []
+
+-- the select of these parts
+abbrev pub query_of : List Col → List SqlFrom → List CodeEquation → Query
+query_of columns froms equations = record { columns = map col_view columns; sources = map source_view froms; equations = map equation_view equations }
 
 abbrev pub select_list : List KnownValue → Query → List (List ℕ)
 select_list known q = flat_map (if_met (headers_in known) q) (products known q.sources)

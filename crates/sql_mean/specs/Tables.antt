@@ -7,7 +7,7 @@
 --   IsStableRow headers Has t row       the row is in the table after a round from which on nothing is added
 --   IsTableRow headers Has t row        the table has the row
 --   After headers Has tables name row   the table with the name has the row, where these tables are made one after the other
-use Rattle.std.specs.Prelude.{◌≡◌, ◌⊎◌, ◌-◌, ℕ, zero, suc, Bool, bytes_eq, MatchBool, List, [], ◌∷◌, length, take, drop}
+use Rattle.std.specs.Prelude.{◌⊎◌, ◌-◌, ℕ, zero, suc, Bool, bytes_eq, MatchBool, List, [], ◌∷◌, length, take, drop}
 use Rattle.std.specs.List.{list_any}
 use Rattle.sql_read.specs.Grammar.{Source, Query, Table}
 use Rattle.sql_read.specs.Conditions.{Header, header_of}

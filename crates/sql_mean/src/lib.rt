@@ -5,10 +5,7 @@
 #![tactic(auto)]
 
 mod known;
-//ROWS
-//SEL
-//TAB
+mod selects;
+mod tables;
 mod tuples;
 mod values;
-
-//pub use rows::sql_rows;

@@ -3,7 +3,7 @@
 ghost use Rattle.std.specs.Prelude.{◌≡◌, ℕ, List, map};
 ghost use Rattle.sql_read.specs.View.{name_view, col_view, right_view, equation_view, source_view};
 ghost use Rattle.sql_mean.specs.Selects.{value_in, value_of, right_value};
-ghost use Rattle.sql_mean.specs.Evaluation.{headers_in, is_met};
+ghost use Rattle.sql_mean.specs.Evaluation.{headers_in, row_view, is_met};
 
 use crate::known::{Known, columns_of};
 use sql_read::{Col, Equation, Right, SqlFrom};
@@ -34,7 +34,7 @@ pub(crate) fn value_of(
     product: &[&[u32]],
     col: Col<'_>,
 ) -> u32
-    ensures { result ≡ value_of (headers_in known.now) (map source_view froms.now) (map name_view product.now) (col_view col.entry) }
+    ensures { result ≡ value_of (headers_in known.now) (map source_view froms.now) (map row_view product.now) (col_view col.entry) }
 {
     let mut froms = froms;
     let mut product = product;
@@ -61,7 +61,7 @@ pub(crate) fn is_met(
     product: &[&[u32]],
     equation: Equation<'_>,
 ) -> bool
-    ensures { result ≡ is_met (headers_in known.now) (map source_view froms.now) (map name_view product.now) (equation_view equation.entry) }
+    ensures { result ≡ is_met (headers_in known.now) (map source_view froms.now) (map row_view product.now) (equation_view equation.entry) }
 {
     let right = match equation.right {
         Right::Column(col) => value_of(known, froms, product, col),
