@@ -1,19 +1,18 @@
 -- The rules of a query as links have the query's rows.
-use Rattle.std.proofs.Common.{◌≡◌, ◌↔◌, inl, inr, ℕ, Bool, true, false, ◌&&◌, nat_lt, List, [], ◌∷◌, ◌++◌, drop, length, map, refl, sym, ap, subst, ◌∙◌}
+use Rattle.std.proofs.Common.{◌≡◌, inl, inr, ℕ, true, ◌&&◌, nat_lt, List, [], ◌∷◌, ◌++◌, drop, length, map, sym, ap, subst}
 use Rattle.std.specs.List.{Contains, AllByRecursion, list_all, slice_index_or}
 use Rattle.std.proofs.lemmas.Bool.{and_parts}
 use Rattle.graph_text.specs.declared.graphs.Triple.{Triple}
 use Rattle.graph_text.proofs.MemberLemmas.{Contains-first, Contains-later, Contains-cases, Contains-none}
-use Rattle.path_pairs.specs.Trees.{Tree}
 use Rattle.path_pairs.specs.Pairs.{Pairs}
 use Rattle.query_terms.specs.declared.terms.Term.{Term}
 use Rattle.query_terms.specs.Laws.{tree_of_conjunct}
 use Rattle.query_terms.specs.Numbering.{numbering}
 use Rattle.query_terms.specs.Trees.{tree_at}
-use Rattle.query_terms.specs.Values.{ConjunctValue, RuleValue, QueryValue, conjuncts_of, is_rule, are_rules}
+use Rattle.query_terms.specs.Values.{ConjunctValue, RuleValue, conjuncts_of, is_rule}
 use Rattle.query_terms.proofs.QueryLemmas.{conjuncts_keep}
 use Rattle.query_terms.proofs.TreeLemmas.{conjuncts_are_trees}
-use Rattle.rpq_meaning.specs.QueryRows.{IsTrueFor, IsRuleRow, IsQueryRow}
+use Rattle.rpq_meaning.specs.QueryRows.{IsTrueFor, IsRuleRow}
 use Rattle.sql_emit.specs.declared.links.LinkRule.{LinkRule}
 use Rattle.sql_emit.specs.Rules.{links_of, link_rules}
 use Rattle.sql_emit.specs.Rows.{Leads, IsLinkRow, IsLinksRow, LinksAreQueries}

@@ -1,7 +1,6 @@
 -- What each reading of a text has: its one reading is the one that is known.
-use Rattle.std.proofs.Common.{◌≡◌, ◌↔◌, ◌<◌, ℕ, ◌+◌, true, List, length, sym, ap, subst, ◌∙◌, Result, Ok, Err}
+use Rattle.std.proofs.Common.{◌≡◌, ◌↔◌, ℕ, ◌+◌, true, List, length, sym, ap, subst, ◌∙◌, Result, Ok, Err}
 use Rattle.std.specs.Prelude.{IfOk}
-use Rattle.graph_text.specs.declared.graphs.Triple.{Triple}
 use Rattle.path_pairs.specs.Pairs.{Pairs}
 use Rattle.token_text.proofs.TokenLemmas.{tokens_are_one}
 use Rattle.query_terms.specs.declared.terms.Term.{Term}

@@ -1,9 +1,9 @@
 -- Selects over the edges, over the nodes, and over tables of pairs.
-use Rattle.std.proofs.Common.{◌≡◌, ℕ, Bool, true, false, bytes_eq, Option, Some, List, [], ◌∷◌, codes, refl, sym, ap, subst, ◌∙◌}
+use Rattle.std.proofs.Common.{◌≡◌, ℕ, false, bytes_eq, Some, List, [], ◌∷◌, codes, refl, sym, ap, subst, ◌∙◌}
 use Rattle.std.specs.List.{Contains, AllByRecursion}
 use Rattle.graph_text.specs.declared.graphs.Triple.{Triple}
 use Rattle.graph_text.specs.Graph.{IsNode}
-use Rattle.sql_read.specs.Grammar.{Col, Source, Query}
+use Rattle.sql_read.specs.Grammar.{Source}
 use Rattle.sql_read.specs.Conditions.{Header, edge_header, columns_of}
 use Rattle.sql_mean.specs.Selects.{IsProduct, value_in, value_of, Meets, projected, IsSelectRow}
 use Rattle.sql_mean.specs.Rows.{edge_row, IsEdgeRow}

@@ -1,16 +1,16 @@
 -- The rows of the selects of rules are those of the rules.
-use Rattle.std.proofs.Common.{◌≡◌, ◌<◌, ◌≤◌, ◌⊎◌, inl, inr, ℕ, zero, suc, ◌+◌, ◌^◌, Bool, true, false, ◌==◌, ◌&&◌, ◌||◌, nat_lt, bytes_eq, if◌then◌else◌, Option, Some, None, unwrap_or, List, [], ◌∷◌, ◌++◌, codes, decimal, drop, length, map, refl, sym, ap, subst, ◌∙◌, arith}
-use Rattle.std.specs.List.{Contains, AllByRecursion, list_all, list_any}
+use Rattle.std.proofs.Common.{◌≡◌, ◌<◌, ◌≤◌, inl, inr, ℕ, ◌+◌, ◌^◌, Bool, true, false, ◌==◌, ◌&&◌, ◌||◌, nat_lt, bytes_eq, if◌then◌else◌, Option, Some, None, unwrap_or, List, [], ◌∷◌, ◌++◌, codes, drop, length, map, refl, sym, ap, subst, ◌∙◌, arith}
+use Rattle.std.specs.List.{Contains, AllByRecursion, list_all}
 use Rattle.std.proofs.lemmas.Bool.{and_parts, or_cases, ltb-true, eqb-true, eq-eqb}
 use Rattle.std.proofs.lemmas.Fmt.{decimal_injective}
 use Rattle.graph_text.specs.declared.graphs.Triple.{Triple}
 use Rattle.graph_text.proofs.MemberLemmas.{Contains-first, Contains-later, Contains-cases, Contains-none, Contains-append_cases, Contains-map, Contains-from_map, list_all-member}
 use Rattle.path_pairs.specs.Pairs.{Pairs}
 use Rattle.query_terms.specs.declared.terms.Term.{Term}
-use Rattle.query_terms.specs.Trees.{trees_of, tree_at}
-use Rattle.sql_read.specs.Grammar.{Col, Right, Column, Value, Equation, Source, Query}
+use Rattle.query_terms.specs.Trees.{tree_at}
+use Rattle.sql_read.specs.Grammar.{Col, Source}
 use Rattle.sql_read.specs.Conditions.{Header}
-use Rattle.sql_mean.specs.Selects.{IsProduct, value_of, Meets, projected, IsSelectRow, IsUnionRow}
+use Rattle.sql_mean.specs.Selects.{IsProduct, value_of, Meets, IsSelectRow}
 use Rattle.sql_mean.specs.Rows.{headers_of, Has}
 use Rattle.sql_mean.proofs.NameLemmas.{other_name}
 use Rattle.sql_mean.proofs.SelectLemmas.{value_later}
@@ -19,7 +19,7 @@ use Rattle.sql_emit.specs.declared.links.LinkRule.{LinkRule}
 use Rattle.sql_emit.specs.Rules.{occurs, is_link_rule}
 use Rattle.sql_emit.specs.Laws.{has_few_links}
 use Rattle.sql_emit.specs.Reading.{table_name, alias_name, col, source, Occurrence, occurrences_from, first_of, head_column, equation_for, equations_from, sources_from, rule_query, printed_of}
-use Rattle.sql_emit.specs.Rows.{Leads, IsLinkRow, IsLinksRow, RowsAreLinks}
+use Rattle.sql_emit.specs.Rows.{Leads, IsLinkRow, RowsAreLinks}
 use Rattle.sql_emit.proofs.PairLemmas.{HasPairs, src_value, trg_value}
 use Rattle.sql_emit.proofs.TableLemmas.{printed_says, long_trees}
 

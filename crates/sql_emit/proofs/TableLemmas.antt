@@ -1,11 +1,9 @@
 -- The tables of terms have the pairs of their trees.
-use Rattle.std.proofs.Common.{◌≡◌, ◌<◌, ◌≤◌, ◌⊎◌, inl, inr, ℕ, zero, suc, ◌+◌, ◌^◌, Bool, true, false, bytes_eq, ltb, Option, Some, List, [], ◌∷◌, ◌++◌, codes, decimal, drop, fold, length, map, option_map, unwrap_or, slice_get, refl, sym, ap, subst, ◌∙◌, arith}
+use Rattle.std.proofs.Common.{◌≡◌, ◌<◌, inl, inr, ℕ, zero, suc, ◌+◌, ◌^◌, true, false, bytes_eq, Some, List, [], ◌∷◌, codes, drop, fold, length, map, option_map, unwrap_or, slice_get, refl, sym, ap, subst, ◌∙◌, arith}
 use Rattle.std.proofs.lemmas.Bool.{cases_lt}
-use Rattle.std.specs.List.{Contains}
 use Rattle.std.proofs.lemmas.Fmt.{decimal_injective}
 use Rattle.std.proofs.lemmas.List.{length-append, get_or_append_left, get_or_push}
 use Rattle.graph_text.specs.declared.graphs.Triple.{Triple}
-use Rattle.graph_text.specs.Graph.{IsNode}
 use Rattle.path_pairs.specs.Trees.{Tree}
 use Rattle.path_pairs.specs.Pairs.{Pairs}
 use Rattle.path_pairs.specs.Rounds as rounds
@@ -13,12 +11,12 @@ use Rattle.path_pairs.proofs.StarLemmas.{stars_agree}
 use Rattle.query_terms.specs.declared.terms.Term.{Term}
 use Rattle.query_terms.specs.declared.terms.Term.TheVariants.{Step, Seq, Alt, Star, Opt}
 use Rattle.query_terms.specs.Store.{ChildrenBelow, IsStore, with_numbers}
-use Rattle.query_terms.specs.Trees.{tree_in, tree_of, with_tree, trees_of, tree_at}
-use Rattle.sql_read.specs.Grammar.{Query, Table, Reading}
-use Rattle.sql_read.specs.Conditions.{Header, edge_header, header_of, headers_after, columns_of}
+use Rattle.query_terms.specs.Trees.{tree_in, tree_of, with_tree, trees_of}
+use Rattle.sql_read.specs.Grammar.{Query, Table}
+use Rattle.sql_read.specs.Conditions.{Header, edge_header, header_of, headers_after}
 use Rattle.sql_mean.specs.Selects.{IsSelectRow, IsUnionRow}
-use Rattle.sql_mean.specs.Tables.{With, takes_itself, InRound, AddsNothing, IsStableRow, IsTableRow, After}
-use Rattle.sql_mean.specs.Rows.{edge_row, IsEdgeRow, AtFirst, headers_of, Has, TableRows}
+use Rattle.sql_mean.specs.Tables.{With, takes_itself, InRound, IsTableRow, After}
+use Rattle.sql_mean.specs.Rows.{edge_row, IsEdgeRow, AtFirst, headers_of, Has}
 use Rattle.sql_mean.proofs.NameLemmas.{same_name, other_name, columns_here, columns_there, with_here, from_here, with_there, from_there}
 use Rattle.sql_mean.proofs.SelectLemmas.{union_first, union_later, from_union, from_one, plain_row, from_plain, round_row, from_rounds}
 use Rattle.sql_emit.specs.declared.links.LinkRule.{LinkRule}

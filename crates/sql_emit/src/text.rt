@@ -20,9 +20,9 @@ pub fn links_text(
 ) -> Result<Vec<u8>, AllocError>
     requires { are_link_rules (length terms.now) rules.now ≡ true }
     ensures text { IfOk result (λ text. text.items ≡ links_text_of terms.now rules.now) }
+    ensures reading { IfOk result (λ text. HasReading text.items terms.now rules.now) }
     ensures tables { IfOk result (λ text. HasTables text.items terms.now) }
     ensures rows { IfOk result (λ text. HasRows text.items (λ graph row. IsLinksRow graph terms.now rules.now row)) }
-    ensures reading { IfOk result (λ text. HasReading text.items terms.now rules.now) }
 {
     let mut out = Vec::new(alloc);
     out.extend_from_slice(b"WITH RECURSIVE\n")?;

@@ -1,4 +1,4 @@
-use Rattle.std.proofs.Common.{◌≡◌, sym, subst, length, List, [], ℕ, codes}
+use Rattle.std.proofs.Common.{◌≡◌, sym, subst, length, [], codes}
 use Rattle.sql_emit.specs.Text.{links_text_of}
 use Rattle.sql_emit.specs.Laws.{ArePrintable, HasReading}
 use Rattle.sql_emit.proofs.ReadingLemmas.{text_has_reading}
