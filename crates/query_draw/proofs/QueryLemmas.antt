@@ -1,0 +1,110 @@
+-- The number of heads of a drawn query, and its parts put together.
+use Rattle.std.proofs.Common.{◌≡◌, ◌≢◌, ℕ, zero, suc, ◌+◌, ◌-◌, ◌<◌, ◌≤◌, ◌==◌, Bool, true, false, ◌&&◌, if◌then◌else◌, Option, Some, None, List, [], ◌∷◌, ◌++◌, length, map, min, take, slice_index_or, refl, sym, ap, subst, ◌∙◌, arith}
+use Rattle.std.specs.List.{range_with_len, list_any, list_all, fold}
+use Rattle.std.specs.Option.{is_some}
+use Rattle.std.proofs.lemmas.Bool.{and_parts}
+use Rattle.std.proofs.lemmas.List.FromFn.{length-range_with_len, get_or-range_with_len, length-map-range_with_len, get_or-map-range_with_len}
+use Rattle.std.proofs.lemmas.List.Sums.{fold_more}
+use Rattle.candidates.specs.Picked.{picked}
+use Rattle.sel_algebra.specs.declared.vocabulary.Class.{Class}
+use Rattle.sel_algebra.specs.declared.vocabulary.Shape.{Shape}
+use Rattle.gm_config.specs.declared.workload_rules.Range.{Range}
+use Rattle.gm_config.specs.Config.{ConfigValue, IsConfig}
+use Rattle.schema_graph.specs.Configured.{schema_of}
+use Rattle.skeletons.specs.Skeleton.{HasSkeleton, spine_of, variables_of}
+use Rattle.walk_pick.specs.Candidates.{is_live_start, types_of, goal_of, count_candidates}
+use Rattle.query_terms.specs.Values.{RuleValue, QueryValue, arity_of, has_class, have_heads}
+use Rattle.sel_graph.specs.Moves.{ReachValue}
+use Rattle.query_draw.specs.Drawn.{words_for, drawn_from}
+use Rattle.query_draw.specs.Query.{reach_of, drawn_shape, drawn_class, rule_count, wanted_arity, rule_size, at_most_variables, drawn_arity, heads_of, drawn_rule, drawn_rules, has_query, query_of, drawn_query}
+use Rattle.query_draw.proofs.RuleLemmas.{IsBegun, rule_is_begun, some_rules, wide_is_there}
+use Rattle.query_draw.proofs.HeadLemmas.{AreHeads, heads_are}
+
+zero_more : (n : ℕ) → 0 + n ≡ n
+zero_more n = omega arith
+
+-- ---- the number of heads
+
+lower_fold : (f : ℕ → ℕ) (a : ℕ) (xs : List ℕ) → fold (λ n x. min n (f x)) a xs ≤ a
+lower_fold f a [] = omega arith
+lower_fold f a (x ∷ xs) = let rest = lower_fold f (min a (f x)) xs in omega (arith, rest)
+
+fold_below : (f : ℕ → ℕ) (a : ℕ) (xs : List ℕ) (i : ℕ) → i < length xs → fold (λ n x. min n (f x)) a xs ≤ f (slice_index_or xs i 0)
+fold_below f a [] i below = absurd (omega (arith, below))
+fold_below f a (x ∷ xs) zero below = let rest = lower_fold f (min a (f x)) xs in omega (arith, rest)
+fold_below f a (x ∷ xs) (suc i) below = fold_below f (min a (f x)) xs i (omega (arith, below))
+
+pub arity_wanted : (c : ConfigValue) (seed number : ℕ) → drawn_arity c seed number ≤ wanted_arity c seed number
+arity_wanted c seed number =
+    lower_fold (λ rule. variables_of (drawn_shape c seed number) (rule_size c seed number rule)) (wanted_arity c seed number) (range_with_len 0 (rule_count c seed number))
+
+-- no rule has fewer variables than heads
+pub arity_variables : (c : ConfigValue) (seed number rule : ℕ) → rule < rule_count c seed number → drawn_arity c seed number ≤ variables_of (drawn_shape c seed number) (rule_size c seed number rule)
+arity_variables c seed number rule within =
+    let rules = range_with_len 0 (rule_count c seed number) in
+    let variables : ℕ → ℕ = λ rule. variables_of (drawn_shape c seed number) (rule_size c seed number rule) in
+    subst (λ x. drawn_arity c seed number ≤ variables x) (get_or-range_with_len 0 (rule_count c seed number) rule 0 within ∙ zero_more rule)
+    (fold_below variables (wanted_arity c seed number) rules rule (omega (arith, within, length-range_with_len 0 (rule_count c seed number))))
+
+-- the number of heads after the first rules
+abbrev pub arity_after : ConfigValue → ℕ → ℕ → ℕ → ℕ
+arity_after c seed number n = fold (at_most_variables c seed number) (wanted_arity c seed number) (take n (range_with_len 0 (rule_count c seed number)))
+
+pub arity_after-more : (c : ConfigValue) (seed number n : ℕ) → n < rule_count c seed number
+    → arity_after c seed number (n + 1) ≡ min (arity_after c seed number n) (variables_of (drawn_shape c seed number) (rule_size c seed number n))
+arity_after-more c seed number n within =
+    let rules = range_with_len 0 (rule_count c seed number) in
+    fold_more (at_most_variables c seed number) (wanted_arity c seed number) rules n 0 (omega (arith, within, length-range_with_len 0 (rule_count c seed number)))
+    ∙ ap (at_most_variables c seed number (arity_after c seed number n)) (get_or-range_with_len 0 (rule_count c seed number) n 0 within ∙ zero_more n)
+
+-- ---- rules
+
+-- a rule of a drawn query has a skeleton, and some start can meet its goal
+pub record IsSized (c : ConfigValue) (seed number rule : ℕ) : Type 0 where
+  pub skeleton : HasSkeleton (drawn_shape c seed number) (rule_size c seed number rule)
+  pub heads : rule < rule_count c seed number → AreHeads (drawn_shape c seed number) (rule_size c seed number rule) (drawn_arity c seed number)
+
+pub rule_is_sized : (c : ConfigValue) → IsConfig c → (seed number rule : ℕ) → has_query c seed number ≡ true → drawn_arity c seed number ≤ 4 → IsSized c seed number rule
+rule_is_sized c is seed number rule any few =
+    let begins = rule_is_begun c is seed number rule any in
+    record {
+      skeleton = begins.skeleton;
+      heads = λ within. heads_are (drawn_shape c seed number) (rule_size c seed number rule) (drawn_arity c seed number) begins.skeleton few (arity_variables c seed number rule within);
+    }
+
+first_arity : (f : ℕ → RuleValue) (n : ℕ) → 0 < n → arity_of (map f (range_with_len 0 n)) ≡ length (f 0).heads
+first_arity f zero some = absurd (omega (arith, some))
+first_arity f (suc n) some = refl
+
+-- a drawn query has a class just where it has two heads
+pub has_class_is : (c : ConfigValue) → IsConfig c → (seed number : ℕ) → has_query c seed number ≡ true → drawn_arity c seed number ≤ 4 → 0 < rule_count c seed number
+    → has_class (drawn_rules c seed number) ≡ (drawn_arity c seed number == 2)
+has_class_is c is seed number any few some =
+    ap (λ n. n == 2) (first_arity (drawn_rule c seed number) (rule_count c seed number) some ∙ ((rule_is_sized c is seed number 0 any few).heads some).long)
+
+-- ---- sizes
+
+-- the sizes of the rules
+abbrev pub all_sizes : ConfigValue → ℕ → ℕ → List ℕ
+all_sizes c seed number = map (rule_size c seed number) (range_with_len 0 (rule_count c seed number))
+
+pub size_within : (c : ConfigValue) (seed number i : ℕ) (sizes : List ℕ) → sizes ≡ all_sizes c seed number → i < length sizes → i < rule_count c seed number
+size_within c seed number i sizes are within =
+    subst (λ n. i < n) (ap length are ∙ length-map-range_with_len (rule_size c seed number) 0 (rule_count c seed number)) within
+
+pub size_at : (c : ConfigValue) (seed number i d : ℕ) (sizes : List ℕ) → sizes ≡ all_sizes c seed number → i < length sizes → slice_index_or sizes i d ≡ rule_size c seed number i
+size_at c seed number i d sizes are within =
+    ap (λ xs. slice_index_or xs i d) are ∙ get_or-map-range_with_len (rule_size c seed number) 0 (rule_count c seed number) i i d (size_within c seed number i sizes are within) (zero_more i)
+
+pub size_skeleton : (c : ConfigValue) → IsConfig c → (seed number i d : ℕ) (shape : Shape) (sizes : List ℕ) → has_query c seed number ≡ true → shape ≡ drawn_shape c seed number → sizes ≡ all_sizes c seed number
+    → i < length sizes → HasSkeleton shape (slice_index_or sizes i d)
+size_skeleton c is seed number i d shape sizes any same are within =
+    subst (λ s. HasSkeleton s (slice_index_or sizes i d)) (sym same)
+    (subst (HasSkeleton (drawn_shape c seed number)) (sym (size_at c seed number i d sizes are within)) (rule_is_begun c is seed number i any).skeleton)
+
+-- the number of conjuncts that is found is the one that is drawn
+pub size_found : (c : ConfigValue) → IsConfig c → (seed number rule w : ℕ) (r : ReachValue) (shape : Shape) (class : Class) (range : Range) (found : Option ℕ) → has_query c seed number ≡ true → r ≡ reach_of c
+    → shape ≡ drawn_shape c seed number → class ≡ drawn_class c seed number → range ≡ c.workload.conjuncts → w ≡ words_for seed number rule 3 → found ≡ picked w (count_candidates r shape class range)
+    → found ≡ Some (rule_size c seed number rule)
+size_found c is seed number rule w r shape class range found any reach shapes classes ranges same value =
+    value ∙ ((λ k. picked (same k) (count_candidates (reach k) (shapes k) (classes k) (ranges k))) ∙ (rule_is_begun c is seed number rule any).count)
