@@ -7,3 +7,4 @@ pub mod PathLemmas
 pub mod HeadLemmas
 pub mod ConjunctLemmas
 pub mod QueryLemmas
+pub mod MatrixLemmas

@@ -2,7 +2,7 @@
 use Rattle.std.proofs.Common.{◌≡◌, ℕ, zero, suc, ◌+◌, ◌-◌, ◌<◌, ◌≤◌, nat_lt, Bool, true, false, ◌&&◌, if◌then◌else◌, Option, Some, None, Result, Ok, Err, List, [], ◌∷◌, ◌++◌, length, map, take, drop, slice_get, slice_index_or, refl, sym, ap, subst, ◌∙◌, arith, IfOk}
 use Rattle.std.specs.List.{fold, list_all}
 use Rattle.std.proofs.lemmas.Bool.{and_parts}
-use Rattle.std.proofs.lemmas.List.{take_more, drop_more, take-map, drop-map}
+use Rattle.std.proofs.lemmas.List.{take_more, drop_more, take-map, drop-map, length-map}
 use Rattle.std.proofs.lemmas.List.Folds.{list_all-map}
 use Rattle.std.proofs.lemmas.Option.{get_or_from_slice_get}
 use Rattle.gm_text.specs.declared.lists.Span.{Span}
@@ -16,10 +16,11 @@ use Rattle.sel_algebra.proofs.ClosureLemmas.{IsClosureOf-closure_of}
 use Rattle.schema_graph.specs.Schema.{SchemaValue}
 use Rattle.query_terms.specs.declared.terms.Conjunct.{Conjunct}
 use Rattle.query_terms.specs.declared.terms.Rule.{Rule}
-use Rattle.query_terms.specs.Values.{ConjunctValue, RuleValue, has_edge, is_word, is_conjunct, is_rule}
+use Rattle.query_terms.specs.Values.{ConjunctValue, RuleValue, has_edge, is_word, is_conjunct, is_rule, are_rules, has_heads, have_heads, arity_of}
 use Rattle.query_terms.specs.Spans.{cut, lies}
-use Rattle.query_terms.specs.Lists.{words_in, conjunct_in, conjuncts_in}
-use Rattle.query_draw.specs.Values.{greatest_of}
+use Rattle.query_terms.specs.Lists.{words_in, conjunct_in, conjuncts_in, rule_in, rules_in}
+use Rattle.skeletons.specs.Skeleton.{spine_of}
+use Rattle.query_draw.specs.Values.{spine, greatest_of}
 use Rattle.query_draw.specs.Wide.{symbol_matrix, times_symbol, word_matrix, plus_word, union_matrix, conjunct_matrix, times_conjunct}
 use Rattle.query_draw.proofs.WideLemmas.{union_kinds, word_kinds}
 
@@ -148,3 +149,40 @@ pub greatest_more : (f : RuleValue → Option Class) (all : Option Class) (wide 
 greatest_more f all wide new rules i d lt so_far next =
     so_far ∙ (ap (λ xs. greater_class wide (greatest_of (map f xs))) (drop_more rules i d lt)
     ∙ (greater-assoc wide (f (slice_index_or rules i d)) (greatest_of (map f (drop (i + 1) rules))) ∙ ap (λ x. greater_class x (greatest_of (map f (drop (i + 1) rules)))) (sym next)))
+
+-- ---- rules
+
+middle : (a b c : Bool) → (a && b && c) ≡ true → b ≡ true
+middle a b c all = grind (arith)
+
+-- the conjuncts of a rule name edges of the schema
+pub rule_conjuncts_pass : (n : ℕ) (symbols : List Symbol) (words : List Span) (conjuncts first : List Conjunct) (rule : Rule) (m : ℕ) → is_rule n (rule_in (conjuncts_in symbols words conjuncts) rule) ≡ true
+    → first ≡ take m (cut conjuncts rule.conjuncts) → list_all (is_conjunct n) (conjuncts_in symbols words first) ≡ true
+rule_conjuncts_pass n symbols words conjuncts first rule m is are =
+    let whole = conjunct_in (words_in symbols words) in
+    let all = cut (conjuncts_in symbols words conjuncts) rule.conjuncts in
+    let pass = middle (nat_lt 0 (length all)) (list_all (is_conjunct n) all) (has_heads (rule_in (conjuncts_in symbols words conjuncts) rule)) is in
+    let part : take m all ≡ map whole first = ap (take m) (cut-map whole conjuncts rule.conjuncts) ∙ (take-map whole m (cut conjuncts rule.conjuncts) ∙ ap (map whole) (sym are)) in
+    subst (λ cs. list_all (is_conjunct n) cs ≡ true) part (passes_first (is_conjunct n) m all pass)
+
+pub spine_part : (symbols : List Symbol) (words : List Span) (conjuncts first : List Conjunct) (rule : Rule) (shape : Shape) (m : ℕ) → first ≡ take m (cut conjuncts rule.conjuncts)
+    → m ≡ spine_of shape (length (cut conjuncts rule.conjuncts)) → conjuncts_in symbols words first ≡ spine shape (rule_in (conjuncts_in symbols words conjuncts) rule)
+spine_part symbols words conjuncts first rule shape m are short =
+    let whole = conjunct_in (words_in symbols words) in
+    let cs = cut conjuncts rule.conjuncts in
+    let same = cut-map whole conjuncts rule.conjuncts in
+    let long : spine_of shape (length cs) ≡ spine_of shape (length (map whole cs)) = ap (spine_of shape) (sym (length-map cs whole)) in
+    ap (map whole) are ∙ (sym (take-map whole m cs) ∙ ((λ k. take (short k) (map whole cs)) ∙ ((λ k. take (long k) (map whole cs)) ∙ (λ k. take (spine_of shape (length (sym same k))) (sym same k)))))
+
+pub rules_pass : (n m : ℕ) (symbols : List Symbol) (words : List Span) (conjuncts : List Conjunct) (rules : List Rule) (i : ℕ) (d : Rule) → are_rules n (rules_in symbols words conjuncts rules) ≡ true → n ≡ m
+    → i < length rules → is_rule m (rule_in (conjuncts_in symbols words conjuncts) (slice_index_or rules i d)) ≡ true
+rules_pass n m symbols words conjuncts rules i d are same lt =
+    let all = rules_in symbols words conjuncts rules in
+    let pass = middle (nat_lt 0 (length all)) (list_all (is_rule n) all) (have_heads (arity_of all) all) are in
+    let whole = rule_in (conjuncts_in symbols words conjuncts) in
+    subst (λ e. is_rule e (whole (slice_index_or rules i d)) ≡ true) same (passes_mapped (is_rule n) whole rules i d pass lt)
+
+pub got_mapped : {X Y : Type 0} (h : X → Y) (xs : List X) (i : ℕ) (d : X) → slice_index_or (map h xs) i (h d) ≡ h (slice_index_or xs i d)
+got_mapped h [] i d = refl
+got_mapped h (y ∷ xs) zero d = refl
+got_mapped h (y ∷ xs) (suc i) d = got_mapped h xs i d

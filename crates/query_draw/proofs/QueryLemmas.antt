@@ -1,5 +1,5 @@
 -- The number of heads of a drawn query, and its parts put together.
-use Rattle.std.proofs.Common.{◌≡◌, ◌≢◌, ℕ, zero, suc, ◌+◌, ◌-◌, ◌<◌, ◌≤◌, ◌==◌, Bool, true, false, ◌&&◌, if◌then◌else◌, Option, Some, None, List, [], ◌∷◌, ◌++◌, length, map, min, take, slice_index_or, refl, sym, ap, subst, ◌∙◌, arith}
+use Rattle.std.proofs.Common.{◌≡◌, ◌≢◌, ℕ, zero, suc, ◌+◌, ◌-◌, ◌^◌, ◌<◌, ◌≤◌, ◌==◌, Bool, true, false, ◌&&◌, if◌then◌else◌, Option, Some, None, List, [], ◌∷◌, ◌++◌, length, map, min, take, slice_index_or, refl, sym, ap, subst, ◌∙◌, arith}
 use Rattle.std.specs.List.{range_with_len, list_any, list_all, fold}
 use Rattle.std.specs.Option.{is_some}
 use Rattle.std.proofs.lemmas.Bool.{and_parts}
@@ -12,10 +12,15 @@ use Rattle.gm_config.specs.declared.workload_rules.Range.{Range}
 use Rattle.gm_config.specs.Config.{ConfigValue, IsConfig}
 use Rattle.schema_graph.specs.Configured.{schema_of}
 use Rattle.skeletons.specs.Skeleton.{HasSkeleton, spine_of, variables_of}
-use Rattle.walk_pick.specs.Candidates.{is_live_start, types_of, goal_of, count_candidates}
+use Rattle.candidates.proofs.PickLemmas.{pick_of-below}
+use Rattle.gm_config.specs.declared.workload_rules.Workload.{Workload}
+use Rattle.walk_pick.specs.Candidates.{is_live_start, types_of, goal_of, permits, count_candidates}
+use Rattle.walk_pick.proofs.LawLemmas.{picked_counts_are_live}
+use Rattle.query_terms.specs.Building.{Building}
 use Rattle.query_terms.specs.Values.{RuleValue, QueryValue, arity_of, has_class, have_heads}
 use Rattle.sel_graph.specs.Moves.{ReachValue}
-use Rattle.query_draw.specs.Drawn.{words_for, drawn_from}
+use Rattle.query_draw.specs.Drawn.{Words, words_for, drawn_from, rule_conjuncts}
+use Rattle.query_draw.proofs.LegLemmas.{words_for-words}
 use Rattle.query_draw.specs.Query.{reach_of, drawn_shape, drawn_class, rule_count, wanted_arity, rule_size, at_most_variables, drawn_arity, heads_of, drawn_rule, drawn_rules, has_query, query_of, drawn_query}
 use Rattle.query_draw.proofs.RuleLemmas.{IsBegun, rule_is_begun, some_rules, wide_is_there}
 use Rattle.query_draw.proofs.HeadLemmas.{AreHeads, heads_are}
@@ -108,3 +113,63 @@ pub size_found : (c : ConfigValue) → IsConfig c → (seed number rule w : ℕ)
     → found ≡ Some (rule_size c seed number rule)
 size_found c is seed number rule w r shape class range found any reach shapes classes ranges same value =
     value ∙ ((λ k. picked (same k) (count_candidates (reach k) (shapes k) (classes k) (ranges k))) ∙ (rule_is_begun c is seed number rule any).count)
+
+-- ---- bounds, and live starts
+
+drawn_most : (range : Range) (w : ℕ) → w < 2 ^ 64 → range.least ≤ range.most → drawn_from range w ≤ range.most
+drawn_most range w below ordered =
+    let pick = pick_of-below w (range.most - range.least + 1) below (omega arith) in
+    omega (arith, pick, ordered)
+
+pub few_rules : (c : ConfigValue) → IsConfig c → (seed number : ℕ) → rule_count c seed number ≤ 4
+few_rules c is seed number =
+    let most = drawn_most c.workload.rules (words_for seed number 0 2) (words_for-words seed number 0 2) is.workload.rules.ordered in
+    omega (arith, most, is.workload.rules.small)
+
+pub arity_few : (c : ConfigValue) → IsConfig c → (seed number : ℕ) → drawn_arity c seed number ≤ 4
+arity_few c is seed number =
+    let most = drawn_most c.workload.arity (words_for seed number 0 5) (words_for-words seed number 0 5) is.workload.arity.ordered in
+    omega (arith, most, is.workload.arity.small, arity_wanted c seed number)
+
+-- some start can meet the goal of a drawn rule
+pub live_start : (c : ConfigValue) → IsConfig c → (seed number rule : ℕ) (r : ReachValue) (shape : Shape) (class : Class) (k : ℕ) → has_query c seed number ≡ true → r ≡ reach_of c → shape ≡ drawn_shape c seed number
+    → class ≡ drawn_class c seed number → k ≡ rule_size c seed number rule → list_any (is_live_start r (goal_of shape class k) (spine_of shape k)) (types_of r) ≡ true
+live_start c is seed number rule r shape class k any reach shapes classes sizes =
+    let begins = rule_is_begun c is seed number rule any in
+    let size = rule_size c seed number rule in
+    let there = drawn_shape c seed number in
+    let wanted = drawn_class c seed number in
+    let (least, most, live) = picked_counts_are_live (reach_of c) there wanted c.workload.conjuncts (words_for seed number rule 3) size begins.count in
+    (λ j. list_any (is_live_start (reach j) (goal_of (shapes j) (classes j) (sizes j)) (spine_of (shapes j) (sizes j))) (types_of (reach j)))
+    ∙ (and_parts (permits there size) (list_any (is_live_start (reach_of c) (goal_of there wanted size) (spine_of there size)) (types_of (reach_of c))) live).1
+
+-- a rule that is drawn from these parts is the drawn one
+pub rule_drawn : (c : ConfigValue) (seed number rule : ℕ) (r : ReachValue) (w : Workload) (d : Words) (shape : Shape) (class : Class) (k n : ℕ) → r ≡ reach_of c → w ≡ c.workload → d ≡ words_for seed number rule
+    → shape ≡ drawn_shape c seed number → class ≡ drawn_class c seed number → k ≡ rule_size c seed number rule → n ≡ drawn_arity c seed number
+    → ◌≡◌ {A = RuleValue} (record { heads = heads_of shape k n; conjuncts = rule_conjuncts r w shape class d k }) (drawn_rule c seed number rule)
+rule_drawn c seed number rule r w d shape class k n reach works words shapes classes sizes heads =
+    λ j. record { heads = heads_of (shapes j) (sizes j) (heads j); conjuncts = rule_conjuncts (reach j) (works j) (shapes j) (classes j) (words j) (sizes j) }
+
+-- one more of rules that are put in
+pub rules_put-more : (b now new : Building) (xs ys : List RuleValue) (x y : RuleValue) → now ≡ record b { rules = xs; taken = now.taken }
+    → new ≡ record now { rules = now.rules ++ x ∷ []; taken = new.taken } → x ≡ y → ys ≡ xs ++ y ∷ [] → new ≡ record b { rules = ys; taken = new.taken }
+rules_put-more b now new xs ys x y first rest same all =
+    rest ∙ ((λ i. record (first i) { rules = (first i).rules ++ same i ∷ []; taken = new.taken }) ∙ (λ i. record b { rules = sym all i; taken = new.taken }))
+
+-- ---- classes
+
+pub rules_some : (c : ConfigValue) → IsConfig c → (seed number : ℕ) → 0 < length (drawn_rules c seed number)
+rules_some c is seed number =
+    let long = length-map-range_with_len (drawn_rule c seed number) 0 (rule_count c seed number) in
+    omega (arith, long, is.workload.rules.above)
+
+is_there : (b : Bool) (class : Class) → is_some (if b then Some class else None) ≡ b
+is_there true class = refl
+is_there false class = refl
+
+-- a query has a class just where it has two heads
+pub class_there : (c : ConfigValue) → IsConfig c → (seed number arity : ℕ) (class : Class) (found : Option Class) (rules : List RuleValue) → has_query c seed number ≡ true → arity ≡ drawn_arity c seed number
+    → found ≡ (if arity == 2 then Some class else None) → rules ≡ drawn_rules c seed number → is_some found ≡ has_class rules
+class_there c is seed number arity class found rules any same are rules_are =
+    let some : 0 < rule_count c seed number = omega (arith, is.workload.rules.above) in
+    ap is_some are ∙ (is_there (arity == 2) class ∙ (ap (λ n. n == 2) same ∙ (sym (has_class_is c is seed number any (arity_few c is seed number) some) ∙ ap has_class (sym rules_are))))

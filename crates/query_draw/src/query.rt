@@ -1,6 +1,6 @@
 //! Whole queries.
 
-ghost use Rattle.std.specs.Prelude.{◌≡◌, ◌<◌, Some, true, map, IfOk, IfErr, OnOk};
+ghost use Rattle.std.specs.Prelude.{◌≡◌, ◌<◌, ◌≤◌, ◌==◌, if◌then◌else◌, Some, None, true, length, map, IfOk, IfErr, OnOk};
 ghost use Rattle.schema_graph.specs.Configured.{schema_of};
 ghost use Rattle.query_terms.specs.Building.{begun};
 ghost use Rattle.query_terms.specs.View.{query_value};
@@ -18,6 +18,7 @@ use gm_config::Config;
 use gm_text::Arena;
 use query_terms::{Query, QueryBuilder};
 use schema_graph::Schema;
+use sel_algebra::Class;
 use sel_graph::Reach;
 use skeletons::Skeleton;
 use std::alloc::{AllocError, Global};
@@ -73,15 +74,23 @@ fn draw_planned<'a>(
 ) -> Result<Query<'a>, AllocError>
     ensures { IfOk result (λ drawn. query_value drawn ≡ query_of plan.now.config.now plan.now.seed plan.now.query) }
 {
+    let _ = plan.config.workload();
     let sizes = draw_sizes(alloc, plan)?;
     let arity = draw_arity(plan, &sizes);
     let labels = edge_labels(alloc, plan.schema)?;
     let mut builder = QueryBuilder::new(alloc, arena, &labels)?;
     draw_rules(alloc, &mut builder, plan, &sizes, arity)?;
-    let class = if arity == 2 { Some(plan.class) } else { None };
+    let class = class_with(plan.class, arity);
     let mut query = builder.finish(plan.shape, class, class)?;
     query.wide = wide_class(alloc, plan.schema, &query)?;
     Ok(query)
+}
+
+/// The class of a query with so many heads: it has one where they are two.
+fn class_with(class: Class, arity: u8) -> Option<Class>
+    ensures { result ≡ (if arity == 2 then Some class else None) }
+{
+    if arity == 2 { Some(class) } else { None }
 }
 
 /// The label of each edge of a schema.
@@ -141,9 +150,12 @@ fn draw_rules(
 ) -> Result<(), AllocError>
     requires begun { builder.old ≡ begun (map (λ e. e.label) plan.now.schema.now.edges) }
     requires sizes { sizes.now ≡ sizes_of plan.now }
+    requires few { length sizes.now ≤ 4 }
+    requires heads { arity ≤ 4 }
     requires arity { arity ≡ drawn_arity plan.now.config.now plan.now.seed plan.now.query }
     ensures { OnOk result (builder.new ≡ record builder.old { rules = rules_of plan.now; taken = builder.new.taken }) }
 {
+    let _ = plan.config.workload();
     for rule in 0..sizes.len() {
         let drawer = plan.drawer(rule as u32);
         let skeleton = Skeleton::of(plan.shape, sizes[rule]);

@@ -1,6 +1,6 @@
 //! The wide class of a query: what the classes of all paths along its labels are at most.
 
-ghost use Rattle.std.specs.Prelude.{◌≡◌, ◌≤◌, true, length, IfOk};
+ghost use Rattle.std.specs.Prelude.{◌≡◌, ◌≤◌, true, length, take, IfOk};
 ghost use Rattle.std.specs.List.{list_all};
 ghost use Rattle.sel_algebra.specs.Entries.{greater_class};
 ghost use Rattle.sel_algebra.specs.Table.{IsMatrix};
@@ -9,7 +9,7 @@ ghost use Rattle.query_terms.specs.Values.{has_edge, is_word, is_conjunct, is_ru
 ghost use Rattle.query_terms.specs.Spans.{cut, lies};
 ghost use Rattle.query_terms.specs.Lists.{words_in, conjunct_in, conjuncts_in, rule_in};
 ghost use Rattle.query_terms.specs.View.{query_value};
-ghost use Rattle.query_draw.specs.Wide.{word_matrix, union_matrix, conjunct_matrix, spine_matrix, rule_wide, query_wide};
+ghost use Rattle.query_draw.specs.Wide.{symbol_matrix, word_matrix, union_matrix, conjunct_matrix, spine_matrix, rule_wide, query_wide};
 
 use gm_text::Span;
 use query_terms::{Conjunct, Query, Rule};
@@ -49,7 +49,7 @@ fn rule_wide(
     ensures { IfOk result (λ wide. wide ≡ rule_wide schema.now query.now.shape (rule_in (conjuncts_in query.now.symbols.now query.now.words.now query.now.conjuncts.now) rule.now)) }
 {
     let conjuncts = cut(query.conjuncts, rule.conjuncts);
-    let spine = &conjuncts[..spine_of(query.shape, conjuncts.len())];
+    let spine = first(conjuncts, spine_of(query.shape, conjuncts.len()));
     let matrix = spine_matrix(alloc, schema, query, spine)?;
     Ok(matrix.greatest_class())
 }
@@ -132,11 +132,19 @@ fn word_matrix(alloc: Global, schema: &Schema, word: &[Symbol]) -> Result<Matrix
 {
     let mut matrix = Matrix::one(alloc, schema.kinds())?;
     for symbol in word {
-        let label = schema.label_of(*symbol);
-        let next = schema.matrix_of(alloc, label, symbol.back)?;
+        let next = symbol_matrix(alloc, schema, *symbol)?;
         matrix = matrix.times(alloc, &next)?;
     }
     Ok(matrix)
+}
+
+/// The matrix of a symbol: that of its label and direction.
+fn symbol_matrix(alloc: Global, schema: &Schema, symbol: Symbol) -> Result<Matrix, AllocError>
+    requires { has_edge (length schema.now.edges) symbol ≡ true }
+    ensures { IfOk result (λ matrix. matrix ≡ symbol_matrix schema.now symbol) }
+{
+    let label = schema.label_of(symbol);
+    schema.matrix_of(alloc, label, symbol.back)
 }
 
 /// The greater of two classes, `None` being below all.
@@ -148,6 +156,14 @@ fn greater_class(first: Option<Class>, second: Option<Class>) -> Option<Class>
         (None, second) => second,
         (first, None) => first,
     }
+}
+
+/// The first items of a list.
+fn first<T>(items: &[T], count: usize) -> &[T]
+    requires { count ≤ length items.now }
+    ensures { result.now ≡ take count items.now }
+{
+    &items[..count]
 }
 
 /// The part of a list that a span is.

@@ -1,5 +1,4 @@
 use Rattle.std.proofs.Common.{ap, ◌∙◌}
-use Rattle.schema_graph.specs.Labelled.{matrix_of}
 use Rattle.query_draw.proofs.MatrixLemmas.{word_more}
 use Rattle.query_draw.proofs.wide.word_matrix.Goals as goal
 
@@ -9,6 +8,6 @@ loop-symbol-preserved c =
     record {
       product =
           word_more g c.loop-symbol.matrix c.in_ok-next.next c.in_ok-matrix-2.matrix c.args.word.now c.loop-symbol.symbol-index _ c.loop-symbol-test.true c.loop-symbol.invariant.product
-          (c.in_ok-next.ensures.value ∙ ap (λ l. matrix_of g l _) c.label_of-label.ensures.label) c.in_ok-matrix-2.ensures.value;
+          c.in_ok-next.ensures c.in_ok-matrix-2.ensures.value;
       kinds = ap (λ t. t.kinds) c.in_ok-matrix-2.ensures.value ∙ c.loop-symbol.invariant.kinds;
     }
