@@ -22,6 +22,7 @@ use Rattle.sel_graph.specs.Moves.{ReachValue}
 use Rattle.query_draw.specs.Drawn.{Words, words_for, drawn_from, rule_conjuncts}
 use Rattle.query_draw.proofs.LegLemmas.{words_for-words}
 use Rattle.query_draw.specs.Query.{reach_of, drawn_shape, drawn_class, rule_count, wanted_arity, rule_size, at_most_variables, drawn_arity, heads_of, drawn_rule, drawn_rules, has_query, query_of, drawn_query}
+use Rattle.query_draw.specs.Wide.{query_wide}
 use Rattle.query_draw.proofs.RuleLemmas.{IsBegun, rule_is_begun, some_rules, wide_is_there}
 use Rattle.query_draw.proofs.HeadLemmas.{AreHeads, heads_are}
 
@@ -116,7 +117,7 @@ size_found c is seed number rule w r shape class range found any reach shapes cl
 
 -- ---- bounds, and live starts
 
-drawn_most : (range : Range) (w : ℕ) → w < 2 ^ 64 → range.least ≤ range.most → drawn_from range w ≤ range.most
+pub drawn_most : (range : Range) (w : ℕ) → w < 2 ^ 64 → range.least ≤ range.most → drawn_from range w ≤ range.most
 drawn_most range w below ordered =
     let pick = pick_of-below w (range.most - range.least + 1) below (omega arith) in
     omega (arith, pick, ordered)
@@ -173,3 +174,22 @@ pub class_there : (c : ConfigValue) → IsConfig c → (seed number arity : ℕ)
 class_there c is seed number arity class found rules any same are rules_are =
     let some : 0 < rule_count c seed number = omega (arith, is.workload.rules.above) in
     ap is_some are ∙ (is_there (arity == 2) class ∙ (ap (λ n. n == 2) same ∙ (sym (has_class_is c is seed number any (arity_few c is seed number) some) ∙ ap has_class (sym rules_are))))
+
+-- the query of these parts is the drawn one
+pub planned_is : (c : ConfigValue) → IsConfig c → (seed number arity : ℕ) (class : Class) (found wide : Option Class) (labels : List ℕ) (shape : Shape) (rules : List RuleValue)
+    → has_query c seed number ≡ true → arity ≡ drawn_arity c seed number → class ≡ drawn_class c seed number → found ≡ (if arity == 2 then Some class else None)
+    → labels ≡ map (λ e. e.label) (schema_of c).edges → shape ≡ drawn_shape c seed number → rules ≡ drawn_rules c seed number → wide ≡ query_wide (schema_of c) shape rules
+    → ◌≡◌ {A = QueryValue} (record { labels = labels; shape = shape; class = found; wide = wide; rules = rules }) (query_of c seed number)
+planned_is c is seed number arity class found wide labels shape rules any same classes are named shapes made wide_is =
+    let some : 0 < rule_count c seed number = omega (arith, is.workload.rules.above) in
+    let two : (arity == 2) ≡ has_class (drawn_rules c seed number) =
+    ap (λ n. n == 2) same ∙ sym (has_class_is c is seed number any (arity_few c is seed number) some) in
+    let found_is : found ≡ (query_of c seed number).class = are ∙ (λ k. if two k then Some (classes k) else None) in
+    let there : wide ≡ (query_of c seed number).wide = wide_is ∙ (λ k. query_wide (schema_of c) (shapes k) (made k)) in
+    λ k. record { labels = named k; shape = shapes k; class = found_is k; wide = there k; rules = made k }
+
+-- it has a wide class just where it has two heads
+pub wide_there : (c : ConfigValue) → IsConfig c → (seed number : ℕ) (wide : Option Class) (shape : Shape) (rules : List RuleValue) → has_query c seed number ≡ true
+    → shape ≡ drawn_shape c seed number → rules ≡ drawn_rules c seed number → wide ≡ query_wide (schema_of c) shape rules → is_some wide ≡ has_class rules
+wide_there c is seed number wide shape rules any shapes made wide_is =
+    ap is_some (wide_is ∙ (λ k. query_wide (schema_of c) (shapes k) (made k))) ∙ (wide_is_there c is seed number any ∙ ap has_class (sym made))
