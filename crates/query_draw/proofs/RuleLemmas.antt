@@ -107,7 +107,7 @@ pub length-second_legs : (r : ReachValue) (w : Workload) (d : Words) (end t n i 
 length-second_legs r w d end t zero i = ap length (second_legs-none r w d end t i)
 length-second_legs r w d end t (suc n) i = ap length (second_legs-more r w d end t n i) ∙ ap suc (length-second_legs r w d end (second_move r w d end t n i).to n (suc i))
 
-length-drawn_conjuncts : (r : ReachValue) (w : Workload) (d : Words) (shape : Shape) (k i : ℕ) (legs : List Leg) → length (drawn_conjuncts r w d shape k i legs) ≡ length legs
+pub length-drawn_conjuncts : (r : ReachValue) (w : Workload) (d : Words) (shape : Shape) (k i : ℕ) (legs : List Leg) → length (drawn_conjuncts r w d shape k i legs) ≡ length legs
 length-drawn_conjuncts r w d shape k i [] = refl
 length-drawn_conjuncts r w d shape k i (leg ∷ legs) = ap suc (length-drawn_conjuncts r w d shape k (suc i) legs)
 
@@ -143,7 +143,7 @@ spine_conjuncts r w d shape class k t is =
 
 -- ---- the class of a rule
 
-after-start : (g : SchemaValue) (s : State) (legs : List Leg) → (after_legs g s legs).start ≡ s.start
+pub after-start : (g : SchemaValue) (s : State) (legs : List Leg) → (after_legs g s legs).start ≡ s.start
 after-start g s [] = refl
 after-start g s (leg ∷ legs) = after-start g (moved g s leg.via) legs
 
@@ -270,7 +270,7 @@ wide_is_there c is seed number any =
 
 -- ---- skeletons, and whether there is a query
 
-ends_from : (r : ReachValue) (w : Workload) (d : Words) (shape : Shape) (k i : ℕ) (legs : List Leg) → ends_in (drawn_conjuncts r w d shape k i legs) ≡ map (ends_of shape k) (range_with_len i (length legs))
+pub ends_from : (r : ReachValue) (w : Workload) (d : Words) (shape : Shape) (k i : ℕ) (legs : List Leg) → ends_in (drawn_conjuncts r w d shape k i legs) ≡ map (ends_of shape k) (range_with_len i (length legs))
 ends_from r w d shape k i [] = refl
 ends_from r w d shape k i (leg ∷ legs) =
     let next : suc i ≡ i + 1 = omega arith in

@@ -74,7 +74,7 @@ LeadsSpine-end g t u cs some leads = ap (λ x. spine_end_from g x cs) (LeadsSpin
 
 -- ---- symbols
 
-symbol_edge : (g : SchemaValue) → IsSchema g → (c : Symbol) → c.edge < length g.edges → IsSchemaEdge g.kinds (use_of g.edges c)
+pub symbol_edge : (g : SchemaValue) → IsSchema g → (c : Symbol) → c.edge < length g.edges → IsSchemaEdge g.kinds (use_of g.edges c)
 symbol_edge g is c known = IsSchemaEdge-taken g.kinds c.back (edge_at g.edges c.edge) (All-get_or (IsSchemaEdge g.kinds) g.edges c.edge _ known is.each_edge)
 
 -- a word leads to a type of the schema
@@ -135,11 +135,11 @@ below_join : (v w : Op) (a b : Option Op) → EntryAtMost (Some v) a → EntryAt
 below_join v w a b first second =
     joined-EntryAtMost (Some v) (Some w) (joined a b) (EntryAtMost-trans (Some v) a (joined a b) first (EntryAtMost-joined_left a b)) (EntryAtMost-trans (Some w) b (joined a b) second (EntryAtMost-joined_right a b))
 
-union_kinds : (g : SchemaValue) (a : Table) (words : List (List Symbol)) → (fold (plus_word g) a words).kinds ≡ a.kinds
+pub union_kinds : (g : SchemaValue) (a : Table) (words : List (List Symbol)) → (fold (plus_word g) a words).kinds ≡ a.kinds
 union_kinds g a [] = refl
 union_kinds g a (word ∷ words) = union_kinds g (plus_word g a word) words
 
-word_kinds : (g : SchemaValue) (a : Table) (word : List Symbol) → (fold (times_symbol g) a word).kinds ≡ a.kinds
+pub word_kinds : (g : SchemaValue) (a : Table) (word : List Symbol) → (fold (times_symbol g) a word).kinds ≡ a.kinds
 word_kinds g a [] = refl
 word_kinds g a (c ∷ word) = word_kinds g (times_symbol g a c) word
 

@@ -2,5 +2,8 @@ pub mod Drawn
 pub mod Values
 pub mod Wide
 pub mod Query
+pub mod Drawers
+pub mod Plans
 pub mod Missing
+pub mod Refusals
 pub mod Laws

@@ -12,7 +12,7 @@ use sel_graph::Reach;
 use walk_pick::pick_count;
 
 /// The tag of the streams from which queries are drawn.
-const TAG: u8 = 7;
+pub(crate) const TAG: u8 = 7;
 
 /// The word at a place of a rule of a query.
 pub(crate) fn rule_word(seed: u64, query: u32, rule: u32, place: u64) -> u64

@@ -3,9 +3,19 @@
 //! A query is drawn of a configuration, a seed and its number. All that it asks for follows from these three.
 #![tactic(auto)]
 
+mod drawer;
 mod drawing;
+mod errors;
 pub mod laws;
 mod legs;
 mod missing;
+mod paths;
+mod plan;
+mod query;
+mod rules;
+mod wide;
+mod words;
 
+pub use errors::DrawError;
 pub use missing::{NoSuchQuery, first_missing};
+pub use query::draw_query;

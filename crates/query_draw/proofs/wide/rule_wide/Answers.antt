@@ -1,0 +1,31 @@
+use Rattle.std.proofs.Common.{◌≡◌, length, take, true, sym, ap, subst, ◌∙◌}
+use Rattle.std.specs.List.{list_all}
+use Rattle.std.proofs.lemmas.List.Folds.{list_all-map}
+use Rattle.sel_algebra.specs.Greatest.{greatest_class_of}
+use Rattle.skeletons.specs.Skeleton.{spine_of}
+use Rattle.query_terms.specs.Spans.{cut, lies}
+use Rattle.query_draw.specs.Wide.{spine_matrix}
+use Rattle.query_draw.proofs.MatrixLemmas.{passes_first, passes_cut, rule_conjuncts_pass, spine_part}
+use Rattle.query_draw.proofs.wide.rule_wide.Goals as goal
+
+pub spine_matrix-requires-clause-lie : goal.spine_matrix-requires-clause-lie
+spine_matrix-requires-clause-lie c =
+    let q = c.args.query.now in
+    let n = length q.words.now in
+    let all = sym (list_all-map (lies n) (λ c. c.words) q.conjuncts.now) ∙ q.conjuncts_lie in
+    let first = c.first-spine.ensures ∙ ap (λ cs. take c.spine_of.result cs) c.cut-conjuncts.ensures in
+    subst (λ cs. list_all (λ x. lies n x.words) cs ≡ true) (sym first) (passes_first (λ x. lies n x.words) c.spine_of.result (cut q.conjuncts.now c.args.rule.now.conjuncts) (passes_cut (λ x. lies n x.words) q.conjuncts.now c.args.rule.now.conjuncts all))
+
+pub spine_matrix-requires-clause-edges : goal.spine_matrix-requires-clause-edges
+spine_matrix-requires-clause-edges c =
+    let q = c.args.query.now in
+    let first = c.first-spine.ensures ∙ ap (λ cs. take c.spine_of.result cs) c.cut-conjuncts.ensures in
+    rule_conjuncts_pass (length c.args.schema.now.edges) q.symbols.now q.words.now q.conjuncts.now c.first-spine.result.now c.args.rule.now c.spine_of.result c.requires.edges first
+
+pub returns : goal.returns
+returns c =
+    let q = c.args.query.now in
+    let first = c.first-spine.ensures ∙ ap (λ cs. take c.spine_of.result cs) c.cut-conjuncts.ensures in
+    let short = c.spine_of.ensures.value ∙ ap (λ cs. spine_of q.shape (length cs)) c.cut-conjuncts.ensures in
+    c.greatest_class.ensures.value
+    ∙ ap greatest_class_of (c.in_ok-matrix.ensures ∙ ap (spine_matrix c.args.schema.now) (spine_part q.symbols.now q.words.now q.conjuncts.now c.first-spine.result.now c.args.rule.now q.shape c.spine_of.result first short))

@@ -1,0 +1,176 @@
+//! The wide class of a query: what the classes of all paths along its labels are at most.
+
+ghost use Rattle.std.specs.Prelude.{◌≡◌, ◌≤◌, true, length, take, IfOk};
+ghost use Rattle.std.specs.List.{list_all};
+ghost use Rattle.sel_algebra.specs.Entries.{greater_class};
+ghost use Rattle.sel_algebra.specs.Table.{IsMatrix};
+ghost use Rattle.skeletons.specs.Skeleton.{spine_of};
+ghost use Rattle.query_terms.specs.Values.{has_edge, is_word, is_conjunct, is_rule};
+ghost use Rattle.query_terms.specs.Spans.{cut, lies};
+ghost use Rattle.query_terms.specs.Lists.{words_in, conjunct_in, conjuncts_in, rule_in};
+ghost use Rattle.query_terms.specs.View.{query_value};
+ghost use Rattle.query_draw.specs.Wide.{symbol_matrix, word_matrix, union_matrix, conjunct_matrix, spine_matrix, rule_wide, query_wide};
+
+use gm_text::Span;
+use query_terms::{Conjunct, Query, Rule};
+use schema_graph::Schema;
+use sel_algebra::{Class, Matrix, Shape, Symbol};
+use std::alloc::{AllocError, Global};
+
+/// The wide class of a query over a schema, whose edges its symbols name.
+pub(crate) fn wide_class(
+    alloc: Global,
+    schema: &Schema,
+    query: &Query<'_>,
+) -> Result<Option<Class>, AllocError>
+    requires { length query.now.labels.now ≡ length schema.now.edges }
+    ensures { IfOk result (λ wide. wide ≡ query_wide schema.now query.now.shape (query_value query.now).rules) }
+{
+    if query.arity() != 2 {
+        return Ok(None);
+    }
+    let mut wide = None;
+    for rule in query.rules {
+        let class = rule_wide(alloc, schema, query, rule)?;
+        wide = greater_class(wide, class);
+    }
+    Ok(wide)
+}
+
+/// The wide class of a rule: the greatest class in the matrix of its spine.
+fn rule_wide(
+    alloc: Global,
+    schema: &Schema,
+    query: &Query<'_>,
+    rule: &Rule,
+) -> Result<Option<Class>, AllocError>
+    requires lies { lies (length query.now.conjuncts.now) rule.now.conjuncts ≡ true }
+    requires edges { is_rule (length schema.now.edges) (rule_in (conjuncts_in query.now.symbols.now query.now.words.now query.now.conjuncts.now) rule.now) ≡ true }
+    ensures { IfOk result (λ wide. wide ≡ rule_wide schema.now query.now.shape (rule_in (conjuncts_in query.now.symbols.now query.now.words.now query.now.conjuncts.now) rule.now)) }
+{
+    let conjuncts = cut(query.conjuncts, rule.conjuncts);
+    let spine = first(conjuncts, spine_of(query.shape, conjuncts.len()));
+    let matrix = spine_matrix(alloc, schema, query, spine)?;
+    Ok(matrix.greatest_class())
+}
+
+/// How many of so many conjuncts are the spine of a rule of this shape.
+fn spine_of(shape: Shape, count: usize) -> usize
+    requires { 1 ≤ count }
+    ensures value { result ≡ spine_of shape count }
+    ensures within { result ≤ count }
+{
+    match shape {
+        Shape::Chain => count,
+        Shape::Star => 1,
+        Shape::Cycle | Shape::StarChain => count.div_ceil(2),
+    }
+}
+
+/// The product of the matrices of conjuncts.
+fn spine_matrix(
+    alloc: Global,
+    schema: &Schema,
+    query: &Query<'_>,
+    conjuncts: &[Conjunct],
+) -> Result<Matrix, AllocError>
+    requires lie { list_all (λ c. lies (length query.now.words.now) c.words) conjuncts.now ≡ true }
+    requires edges { list_all (is_conjunct (length schema.now.edges)) (conjuncts_in query.now.symbols.now query.now.words.now conjuncts.now) ≡ true }
+    ensures { IfOk result (λ matrix. matrix ≡ spine_matrix schema.now (conjuncts_in query.now.symbols.now query.now.words.now conjuncts.now)) }
+{
+    let mut matrix = Matrix::one(alloc, schema.kinds())?;
+    for conjunct in conjuncts {
+        let next = conjunct_matrix(alloc, schema, query, conjunct)?;
+        matrix = matrix.times(alloc, &next)?;
+    }
+    Ok(matrix)
+}
+
+/// The matrix of a conjunct: the join of its words, and the closure of that where it is starred.
+fn conjunct_matrix(
+    alloc: Global,
+    schema: &Schema,
+    query: &Query<'_>,
+    conjunct: &Conjunct,
+) -> Result<Matrix, AllocError>
+    requires lies { lies (length query.now.words.now) conjunct.now.words ≡ true }
+    requires edges { is_conjunct (length schema.now.edges) (conjunct_in (words_in query.now.symbols.now query.now.words.now) conjunct.now) ≡ true }
+    ensures { IfOk result (λ matrix. matrix ≡ conjunct_matrix schema.now (conjunct_in (words_in query.now.symbols.now query.now.words.now) conjunct.now)) }
+{
+    let words = cut(query.words, conjunct.words);
+    let union = union_matrix(alloc, schema, query, words)?;
+    if conjunct.star {
+        union.closure(alloc)
+    } else {
+        Ok(union)
+    }
+}
+
+/// The join of the matrices of words.
+fn union_matrix(
+    alloc: Global,
+    schema: &Schema,
+    query: &Query<'_>,
+    words: &[Span],
+) -> Result<Matrix, AllocError>
+    requires lie { list_all (lies (length query.now.symbols.now)) words.now ≡ true }
+    requires edges { list_all (is_word (length schema.now.edges)) (words_in query.now.symbols.now words.now) ≡ true }
+    ensures { IfOk result (λ matrix. matrix ≡ union_matrix schema.now (words_in query.now.symbols.now words.now)) }
+{
+    let mut union = Matrix::zero(alloc, schema.kinds())?;
+    for word in words {
+        let next = word_matrix(alloc, schema, cut(query.symbols, *word))?;
+        union = union.plus(alloc, &next)?;
+    }
+    Ok(union)
+}
+
+/// The product of the matrices of the symbols of a word.
+fn word_matrix(alloc: Global, schema: &Schema, word: &[Symbol]) -> Result<Matrix, AllocError>
+    requires { list_all (has_edge (length schema.now.edges)) word.now ≡ true }
+    ensures { IfOk result (λ matrix. matrix ≡ word_matrix schema.now word.now) }
+{
+    let mut matrix = Matrix::one(alloc, schema.kinds())?;
+    for symbol in word {
+        let next = symbol_matrix(alloc, schema, *symbol)?;
+        matrix = matrix.times(alloc, &next)?;
+    }
+    Ok(matrix)
+}
+
+/// The matrix of a symbol: that of its label and direction.
+fn symbol_matrix(alloc: Global, schema: &Schema, symbol: Symbol) -> Result<Matrix, AllocError>
+    requires { has_edge (length schema.now.edges) symbol ≡ true }
+    ensures { IfOk result (λ matrix. matrix ≡ symbol_matrix schema.now symbol) }
+{
+    let label = schema.label_of(symbol);
+    schema.matrix_of(alloc, label, symbol.back)
+}
+
+/// The greater of two classes, `None` being below all.
+fn greater_class(first: Option<Class>, second: Option<Class>) -> Option<Class>
+    ensures { result ≡ greater_class first second }
+{
+    match (first, second) {
+        (Some(first), Some(second)) => Some(if first <= second { second } else { first }),
+        (None, second) => second,
+        (first, None) => first,
+    }
+}
+
+/// The first items of a list.
+fn first<T>(items: &[T], count: usize) -> &[T]
+    requires { count ≤ length items.now }
+    ensures { result.now ≡ take count items.now }
+{
+    &items[..count]
+}
+
+/// The part of a list that a span is.
+fn cut<T>(items: &[T], span: Span) -> &[T]
+    requires { lies (length items.now) span ≡ true }
+    ensures { result.now ≡ cut items.now span }
+{
+    let first = span.first as usize;
+    &items[first..first + span.count as usize]
+}
