@@ -22,12 +22,16 @@ use Rattle.gm_top.specs.declared.outcomes.Outcome.{Outcome}
 use Rattle.gm_top.specs.declared.work.Work.{Work}
 use Rattle.gm_top.specs.declared.work.Work.TheVariants.{Query, Files}
 use Rattle.gm_top.specs.Decision.{IsValueOf, query_decision, files_decision, IsDecision}
-use Rattle.gm_top.specs.Outputs.{Output, graph, query, outputs_of, name_of, IsTextOf, Means, IsAccepted, AreFilesOf, AreMeant}
+use Rattle.gm_top.specs.Outputs.{Output, graph, workload, query, outputs_of, name_of, IsTextOf, Means, IsAccepted, AreFilesOf, AreMeant}
+use Rattle.workload_text.specs.Lines.{work_text}
+use Rattle.gm_top.specs.Workload.{workload_of}
 use Rattle.gm_top.specs.Rows.{MeansQuery}
 use Rattle.gm_top.specs.Laws.{Refuses, DefinesFiles}
 use Rattle.gm_top.proofs.DecisionLemmas.{decides-files, IsAccepted-IsDecision}
 use Rattle.gm_top.proofs.PlainLemmas.{IsLabelOf-some, IsLabelOf-one}
 use Rattle.gm_top.proofs.GraphLemmas.{graph_text-some}
+use Rattle.gm_top.proofs.WorkloadLemmas.{workload-classes}
+use Rattle.gm_top.proofs.KeptLemmas.{workload-kept}
 use Rattle.gm_top.proofs.RowLemmas.{MeansQuery-plain}
 
 -- bytes have a value or none, and one alone
@@ -66,25 +70,30 @@ IsDecision-one (Generate seed) bytes a b (value, is_value, p) (other, is_other, 
 abbrev pub IsAcceptedOutput : Output → Type 0
 IsAcceptedOutput (query label) = IsName label
 IsAcceptedOutput (graph config seed) = IsAcceptedFor config seed
+IsAcceptedOutput (workload config seed) = IsAcceptedFor config seed
 
 pub outputs-accepted : (work : Work) → IsAccepted work → AllByRecursion IsAcceptedOutput (outputs_of work)
 outputs-accepted (Query label) accepted = (accepted, tt)
-outputs-accepted (Files g) accepted = (accepted, tt)
+outputs-accepted (Files g) accepted = (accepted, (accepted, tt))
 
 -- it has a text
 pub IsTextOf-some : (output : Output) → IsAcceptedOutput output → (text : List ℕ) × IsTextOf output text
 IsTextOf-some (query label) accepted = (plain_sparql_text label, refl)
 IsTextOf-some (graph config seed) accepted = graph_text-some config seed accepted.rules accepted.sides
+IsTextOf-some (workload config seed) accepted = (work_text (workload_of config seed), refl)
 
 -- it has one text
 IsTextOf-one : (output : Output) (text other : List ℕ) → IsTextOf output text → IsTextOf output other → text ≡ other
 IsTextOf-one (query label) text other p q = p ∙ sym q
+IsTextOf-one (workload config seed) text other p q = p ∙ sym q
 IsTextOf-one (graph config seed) text other (edges, all, reading) (others, all_others, read_so) =
     sym reading.1 ∙ ap edges_text (AreAllEdges-one config seed edges others all all_others) ∙ read_so.1
 
 -- the text means what it is to mean
 Means-IsTextOf : (output : Output) (text : List ℕ) → IsAcceptedOutput output → IsTextOf output text → Means output text
 Means-IsTextOf (query label) text accepted is = subst (MeansQuery label) (sym is) (MeansQuery-plain label accepted)
+Means-IsTextOf (workload config seed) text accepted is =
+    (workload_of config seed, (workload-kept config seed accepted.rules accepted.queries, sym is), refl, workload-classes config seed accepted.rules accepted.queries)
 Means-IsTextOf (graph config seed) text accepted (edges, all, reading) = (edges, reading, IsConforming-AreAllEdges config seed edges accepted.rules all)
 
 -- accepted outputs have files

@@ -3,6 +3,8 @@ pub mod DecisionLemmas
 pub mod PutLemmas
 pub mod OutputLemmas
 pub mod GraphLemmas
+pub mod WorkloadLemmas
+pub mod KeptLemmas
 pub mod RowLemmas
 pub mod PlainLemmas
 pub mod LawLemmas

@@ -297,10 +297,16 @@ PutsTextPart-stopped old now c d before after text rest all put is =
 -- ---- a file, from its create to its finish
 
 -- it was created, and nothing is kept
-pub PutSoFar-none : (old now : Option FileList) (calls calls_now : ℕ) (name : List ℕ) → Gained old now ((name, []) ∷ []) → calls_now ≡ raised calls 1
+PutSoFar-none : (old now : Option FileList) (calls calls_now : ℕ) (name : List ℕ) → Gained old now ((name, []) ∷ []) → calls_now ≡ raised calls 1
     → PutSoFar old now calls calls_now name [] []
 PutSoFar-none old now calls calls_now name gained called =
     record { done = []; whole = refl; gained = gained; called = rw called (CallsToPut-none (raised calls 1) [] (omega arith)) }
+
+-- it was created, and no bytes are kept
+pub PutSoFar-created : (old now : Option FileList) (calls calls_now : ℕ) (name kept : List ℕ) → Gained old now ((name, []) ∷ []) → calls_now ≡ raised calls 1
+    → kept ≡ [] → PutSoFar old now calls calls_now name kept []
+PutSoFar-created old now calls calls_now name kept gained called empty =
+    subst (λ (bytes : List ℕ). PutSoFar old now calls calls_now name bytes []) (sym empty) (PutSoFar-none old now calls calls_now name gained called)
 
 -- one more text was put
 pub PutSoFar-more : (old mid new : Option FileList) (calls calls_mid calls_new : ℕ) (name before after text more all : List ℕ)
@@ -337,5 +343,15 @@ pub PutSoFar-flushed : (old mid new : Option FileList) (calls calls_mid calls_ne
     → Gained old new ((name, text) ∷ []) × (calls_new ≡ raised calls (1 + pieces_of (length text)))
 PutSoFar-flushed old mid new calls calls_mid calls_new name kept text put wrote called = (
   subst (λ (bytes : List ℕ). Gained old new ((name, bytes) ∷ [])) put.whole (Gained-write old mid new name put.done kept put.gained wrote),
+  omega (arith, called, put.called.each_piece, put.called.kept),
+)
+
+-- a write of what was kept failed
+pub PutSoFar-unflushed : (old mid new : Option FileList) (calls calls_mid calls_new : ℕ) (name kept text : List ℕ) → PutSoFar old mid calls calls_mid name kept text
+    → Told mid new (λ xs ys. (count : ℕ) × (ys ≡ with_piece xs (take count kept))) → calls_new ≡ raised calls_mid (pieces_of (length kept))
+    → GainedPart old new ((name, text) ∷ []) × (calls_new ≤ raised calls (file_calls (length text)))
+PutSoFar-unflushed old mid new calls calls_mid calls_new name kept text put wrote called = (
+  GainedPart-PutsPart old mid new name put.done kept [] text put.gained (PutsPart-write mid new kept wrote)
+      (sym put.whole ∙ ap (λ (bytes : List ℕ). put.done ++ bytes) (sym (append-nil kept))),
   omega (arith, called, put.called.each_piece, put.called.kept),
 )

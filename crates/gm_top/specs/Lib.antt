@@ -3,6 +3,7 @@ pub mod Outcome
 pub mod Decision
 pub mod Rows
 pub mod Generation
+pub mod Workload
 pub mod Outputs
 pub mod Putting
 pub mod Run

@@ -22,6 +22,8 @@ use Rattle.gm_config.specs.declared.errors.ConfigFault.TheVariants as fault
 use Rattle.gm_config.specs.declared.errors.ConfigError.{ConfigError}
 use Rattle.gm_config.specs.declared.errors.ConfigError.TheVariants as config
 use Rattle.query_draw.specs.declared.missing.NoSuchQuery.{NoSuchQuery}
+use Rattle.query_draw.specs.declared.errors.DrawError.{DrawError}
+use Rattle.query_draw.specs.declared.errors.DrawError.TheVariants as draw
 use Rattle.edge_match.specs.declared.config_sides.Side.{Side}
 use Rattle.edge_match.specs.declared.config_sides.Side.TheVariants as side
 use Rattle.edge_match.specs.declared.errors.TooManyStubs.{TooManyStubs}
@@ -158,6 +160,11 @@ config_outcome config.NoMemory = outcome.NoMemory
 -- the outcome of a query that can't be drawn
 abbrev pub missing_outcome : NoSuchQuery → Outcome
 missing_outcome missing = outcome.NoSuchQuery missing.query missing.shape missing.class
+
+-- the outcome where a query isn't drawn
+abbrev pub draw_outcome : DrawError → Outcome
+draw_outcome (draw.NoSuchQuery missing) = missing_outcome missing
+draw_outcome draw.NoMemory = outcome.NoMemory
 
 -- the outcome of a side with too many stubs
 abbrev pub stubs_outcome : TooManyStubs → Outcome

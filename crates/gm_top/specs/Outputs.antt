@@ -27,18 +27,22 @@ use Rattle.edge_match.specs.ConformingGraph.{IsConforming}
 use Rattle.sparql_read.specs.Plain.{plain_sparql_text}
 use Rattle.gm_top.specs.declared.work.Work.{Work}
 use Rattle.gm_top.specs.declared.work.Work.TheVariants.{Query, Files}
+use Rattle.workload_text.specs.Lines as lines
+use Rattle.workload_text.specs.Values.{WorkValue}
 use Rattle.gm_top.specs.Generation.{IsAcceptedFor}
+use Rattle.gm_top.specs.Workload.{workload_of, HaveClasses}
 use Rattle.gm_top.specs.Rows.{MeansQuery}
 
--- a file: the graph of a configuration and a seed, or the query for the edges of a label
+-- a file: the graph or the workload of a configuration and a seed, or the query for the edges of a label
 pub data Output : Type 0 where
   graph : ConfigValue → ℕ → Output
+  workload : ConfigValue → ℕ → Output
   query : List ℕ → Output
 
 -- the files that a work is to make, in order
 abbrev pub outputs_of : Work → List Output
 outputs_of (Query label) = query label ∷ []
-outputs_of (Files g) = graph g.config g.seed ∷ []
+outputs_of (Files g) = graph g.config g.seed ∷ workload g.config g.seed ∷ []
 
 -- a work that can be decided: the label is a name, or nothing of the configuration is refused
 abbrev pub IsAccepted : Work → Type 0
@@ -48,17 +52,22 @@ IsAccepted (Files g) = IsAcceptedFor g.config g.seed
 -- the name of a file
 abbrev pub name_of : Output → List ℕ
 name_of (graph config seed) = codes "graph.txt"
+name_of (workload config seed) = codes "workload.txt"
 name_of (query label) = query_name_of 0 Sparql
 
--- the bytes of a file: the lines of all edges, or the text of the query
+-- the bytes of a file: the lines of all edges, the text of the head and of the drawn queries, or the text of the query
 abbrev pub IsTextOf : Output → List ℕ → Type 0
 IsTextOf (graph config seed) text = (edges : List Triple) × AreAllEdges config seed edges × IsReading text edges
+IsTextOf (workload config seed) text = text ≡ lines.work_text (workload_of config seed)
 IsTextOf (query label) text = text ≡ plain_sparql_text label
 
--- What the bytes of a file mean: they read as a list of edges that conforms to the configuration and the seed, or
--- they have a reading with the rows of the query.
+-- What the bytes of a file mean: they read as a list of edges that conforms to the configuration and the seed; they
+-- read as the configuration's head with its drawn queries, each of which has the classes of its words; or they have a
+-- reading with the rows of the query.
 abbrev pub Means : Output → List ℕ → Type 0
 Means (graph config seed) text = (edges : List Triple) × IsReading text edges × IsConforming config seed edges
+Means (workload config seed) text =
+    (v : WorkValue) × lines.IsReading text v × (v ≡ workload_of config seed) × HaveClasses config seed v
 Means (query label) text = MeansQuery label text
 
 -- at each place a file has the name that it is to have, and its bytes have a property

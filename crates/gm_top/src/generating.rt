@@ -14,6 +14,7 @@ use crate::generation::Generation;
 use crate::graph_file::write_graph;
 use crate::outcomes::Outcome;
 use crate::work::Work;
+use crate::workload_file::write_workload;
 use edge_match::first_over;
 use gm_config::read_config;
 use gm_files::Pieces;
@@ -76,5 +77,6 @@ pub(crate) fn written<F: Folder>(
         &mut pieces,
         folder,
     )?;
+    write_workload(alloc, generation, &mut pieces, folder)?;
     Ok(())
 }

@@ -56,6 +56,13 @@ impl Generation {
         &self.config
     }
 
+    /// The number of queries that it asks for.
+    pub(crate) fn query_count(&self) -> u32
+        ensures { result ≡ self.now.config.workload.queries }
+    {
+        self.config.workload().queries
+    }
+
     /// Its schema.
     pub(crate) fn schema(&self) -> &Schema
         ensures { result.now ≡ schema_of self.now.config }

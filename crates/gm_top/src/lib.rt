@@ -15,6 +15,7 @@ mod putting;
 mod top;
 mod translating;
 mod work;
+mod workload_file;
 
 pub use commands::Command;
 pub use outcomes::Outcome;

@@ -8,7 +8,7 @@ use edge_match::{MatchError, Side, TooManyStubs};
 use gm_config::{ConfigError, ConfigFault};
 use gm_files::WriteFault;
 use gm_io::{Failed, ReadError};
-use query_draw::NoSuchQuery;
+use query_draw::{DrawError, NoSuchQuery};
 use sel_algebra::{Class, Shape};
 use std::alloc::{AllocError, Global};
 
@@ -210,6 +210,19 @@ impl From<NoSuchQuery> for Outcome {
             query: missing.query,
             shape: missing.shape,
             class: missing.class,
+        }
+    }
+}
+
+impl From<DrawError> for Outcome {
+    ghost use Rattle.gm_top.specs.Outcome.{draw_outcome};
+
+    ghost from_gives = { λ error outcome. outcome ≡ draw_outcome error };
+
+    fn from(error: DrawError) -> Self {
+        match error {
+            DrawError::NoSuchQuery(missing) => Outcome::from(missing),
+            DrawError::NoMemory => Outcome::NoMemory,
         }
     }
 }

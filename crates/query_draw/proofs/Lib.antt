@@ -8,3 +8,4 @@ pub mod HeadLemmas
 pub mod ConjunctLemmas
 pub mod QueryLemmas
 pub mod MatrixLemmas
+pub mod LedLemmas

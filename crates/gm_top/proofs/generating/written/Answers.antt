@@ -1,10 +1,11 @@
-use Rattle.std.proofs.Common.{ℕ, [], ◌∷◌, subst}
-use Rattle.gm_config.specs.Config.{ConfigValue}
+use Rattle.std.proofs.Common.{[], ◌∷◌}
 use Rattle.gm_top.specs.declared.work.Work.TheVariants.{Files}
-use Rattle.gm_top.specs.Outputs.{graph, outputs_of, TakesCallsWithin}
+use Rattle.gm_top.specs.Outputs.{graph, workload, outputs_of, MakesFiles, MakesPart, TakesCalls, TakesCallsWithin}
 use Rattle.gm_top.proofs.PutLemmas.{KeepsFiles-same}
 use Rattle.gm_top.proofs.GraphLemmas.{OnErr-all}
-use Rattle.gm_top.proofs.OutputLemmas.{MakesPart-none, TakesCallsWithin-none}
+use Rattle.gm_top.proofs.WorkloadLemmas.{lent, workload-files}
+use Rattle.gm_top.proofs.OutputLemmas.{MakesFiles-append, MakesPart-append, MakesPart-longer, MakesPart-none}
+use Rattle.gm_top.proofs.OutputLemmas.{TakesCalls-append, TakesCallsWithin-append, TakesCallsWithin-longer, TakesCallsWithin-none}
 use Rattle.gm_top.proofs.LawLemmas.{AreFilesOf-some, outputs-accepted}
 use Rattle.gm_top.proofs.generating.written.Goals as goal
 
@@ -18,10 +19,54 @@ returns-in_err-pieces-clause-part_calls g c =
     let work = Files c.args.generation.now in
     OnErr-all c.from_residual.result _ (TakesCallsWithin-none (outputs_of work) _ (AreFilesOf-some (outputs_of work) (outputs-accepted work c.requires.accepted)))
 
+pub returns-in_err-write_graph-clause-part : goal.returns-in_err-write_graph-clause-part
+returns-in_err-write_graph-clause-part g c =
+    let own = c.args.generation.now in
+    let part =
+    lent (λ config seed. MakesPart (graph config seed ∷ []) (g.F.Folder.files c.args.folder.now) (g.F.Folder.files c.write_graph.new.folder)) _ own.config _ own.seed c.config.ensures c.seed.ensures
+    c.in_err-write_graph.ensures.part in
+    OnErr-all c.from_residual-in_err-write_graph.result _
+    (MakesPart-longer (graph own.config own.seed ∷ []) (workload own.config own.seed ∷ []) _ _ part (workload-files own.config own.seed))
+
 pub returns-in_err-write_graph-clause-part_calls : goal.returns-in_err-write_graph-clause-part_calls
 returns-in_err-write_graph-clause-part_calls g c =
-    let within = λ (config : ConfigValue) (seed : ℕ). TakesCallsWithin (graph config seed ∷ []) (g.F.Folder.calls c.args.folder.now) (g.F.Folder.calls c.write_graph.new.folder) in
+    let own = c.args.generation.now in
     let part =
-    subst (within c.args.generation.now.config) c.seed.ensures
-    (subst (λ (config : ConfigValue). within config c.seed.result) c.config.ensures c.in_err-write_graph.ensures.part_calls) in
-    OnErr-all c.from_residual-in_err-write_graph.result _ part
+    lent (λ config seed. TakesCallsWithin (graph config seed ∷ []) (g.F.Folder.calls c.args.folder.now) (g.F.Folder.calls c.write_graph.new.folder)) _ own.config _ own.seed c.config.ensures
+    c.seed.ensures c.in_err-write_graph.ensures.part_calls in
+    OnErr-all c.from_residual-in_err-write_graph.result _
+    (TakesCallsWithin-longer (graph own.config own.seed ∷ []) (workload own.config own.seed ∷ []) _ _ part (workload-files own.config own.seed))
+
+pub returns-in_err-write_workload-clause-part : goal.returns-in_err-write_workload-clause-part
+returns-in_err-write_workload-clause-part g c =
+    let own = c.args.generation.now in
+    let files =
+    lent (λ config seed. MakesFiles (graph config seed ∷ []) (g.F.Folder.files c.args.folder.now) (g.F.Folder.files c.write_graph.new.folder)) _ own.config _ own.seed c.config.ensures c.seed.ensures
+    c.in_ok-write_graph.ensures.files in
+    OnErr-all c.from_residual-in_err-write_workload.result _
+    (MakesPart-append (graph own.config own.seed ∷ []) (workload own.config own.seed ∷ []) _ _ _ files c.in_err-write_workload.ensures.part)
+
+pub returns-in_err-write_workload-clause-part_calls : goal.returns-in_err-write_workload-clause-part_calls
+returns-in_err-write_workload-clause-part_calls g c =
+    let own = c.args.generation.now in
+    let calls =
+    lent (λ config seed. TakesCalls (graph config seed ∷ []) (g.F.Folder.calls c.args.folder.now) (g.F.Folder.calls c.write_graph.new.folder)) _ own.config _ own.seed c.config.ensures c.seed.ensures
+    c.in_ok-write_graph.ensures.calls in
+    OnErr-all c.from_residual-in_err-write_workload.result _
+    (TakesCallsWithin-append (graph own.config own.seed ∷ []) (workload own.config own.seed ∷ []) _ _ _ calls c.in_err-write_workload.ensures.part_calls)
+
+pub returns-clause-files : goal.returns-clause-files
+returns-clause-files g c =
+    let own = c.args.generation.now in
+    let files =
+    lent (λ config seed. MakesFiles (graph config seed ∷ []) (g.F.Folder.files c.args.folder.now) (g.F.Folder.files c.write_graph.new.folder)) _ own.config _ own.seed c.config.ensures c.seed.ensures
+    c.in_ok-write_graph.ensures.files in
+    MakesFiles-append (graph own.config own.seed ∷ []) (workload own.config own.seed ∷ []) _ _ _ files c.in_ok-write_workload.ensures.files
+
+pub returns-clause-calls : goal.returns-clause-calls
+returns-clause-calls g c =
+    let own = c.args.generation.now in
+    let calls =
+    lent (λ config seed. TakesCalls (graph config seed ∷ []) (g.F.Folder.calls c.args.folder.now) (g.F.Folder.calls c.write_graph.new.folder)) _ own.config _ own.seed c.config.ensures c.seed.ensures
+    c.in_ok-write_graph.ensures.calls in
+    TakesCalls-append (graph own.config own.seed ∷ []) (workload own.config own.seed ∷ []) _ _ _ calls c.in_ok-write_workload.ensures.calls

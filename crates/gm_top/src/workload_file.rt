@@ -1,0 +1,144 @@
+//! The file of a workload.
+
+ghost use Rattle.std.specs.Prelude.{◌≡◌, ◌<◌, [], ◌∷◌, true, false, length};
+ghost use Rattle.std.specs.Prelude.{IfOk, IfErr, OnOk, OnErr, IsErrOf, IsTrue};
+ghost use Rattle.gm_io.specs.Count.{Rose};
+ghost use Rattle.gm_files.specs.Calls.{piece_most};
+ghost use Rattle.query_draw.specs.Query.{has_query, query_of};
+ghost use Rattle.workload_text.specs.Head.{head_of};
+ghost use Rattle.workload_text.specs.Lines.{lines_text, head_lines, query_lines};
+ghost use Rattle.workload_text.specs.Lines.WorkLine.{EndLine};
+ghost use Rattle.gm_top.specs.Generation.{CanDraw, IsAcceptedFor};
+ghost use Rattle.gm_top.specs.Outcome.{is_of_writing};
+ghost use Rattle.gm_top.specs.Outputs.{workload, MakesFiles, MakesPart, TakesCalls, TakesCallsWithin};
+ghost use Rattle.gm_top.specs.Putting.{PutsText, PutsTextPart};
+ghost use Rattle.gm_top.specs.Workload.{all_queries_text};
+
+use crate::generation::Generation;
+use crate::outcomes::Outcome;
+use crate::putting::put_text;
+use gm_files::Pieces;
+use gm_io::Folder;
+use gm_text::Arena;
+use query_draw::draw_query;
+use std::alloc::{AllocError, Global};
+use workload_text::{WorkHead, write_end, write_head, write_query};
+
+/// Writes the file of the workload of a configuration. Nothing is kept in the pieces before and after it.
+pub(crate) fn write_workload<F: Folder>(
+    alloc: Global,
+    generation: &Generation,
+    pieces: &mut Pieces,
+    folder: &mut F,
+) -> Result<(), Outcome>
+    requires accepted { IsAcceptedFor generation.now.config generation.now.seed }
+    requires empty { pieces.old ≡ [] }
+    requires finished { F.unfinished folder.old ≡ false }
+    ensures files { OnOk result
+        (MakesFiles (workload generation.now.config generation.now.seed ∷ []) (F.files folder.old) (F.files folder.new)) }
+    ensures finished { OnOk result (F.unfinished folder.new ≡ false) }
+    ensures empty { OnOk result (pieces.new ≡ []) }
+    ensures part { OnErr result
+        (MakesPart (workload generation.now.config generation.now.seed ∷ []) (F.files folder.old) (F.files folder.new)) }
+    ensures calls { OnOk result
+        (TakesCalls (workload generation.now.config generation.now.seed ∷ []) (F.calls folder.old) (F.calls folder.new)) }
+    ensures part_calls { OnErr result
+        (TakesCallsWithin (workload generation.now.config generation.now.seed ∷ []) (F.calls folder.old) (F.calls folder.new)) }
+    ensures stops { IfErr result (λ outcome. IsTrue (is_of_writing outcome)) }
+    ensures fault { IsErrOf result Outcome.WriteFault → Rose (F.faults folder.old) (F.faults folder.new) }
+    ensures faults { ¬ IsErrOf result Outcome.WriteFault → F.faults folder.new ≡ F.faults folder.old }
+{
+    let head = head_text(alloc, generation)?;
+    let end = end_text(alloc)?;
+    folder.create("workload.txt")?;
+    put_text(pieces, folder, &head)?;
+    put_queries(alloc, generation, pieces, folder)?;
+    put_text(pieces, folder, &end)?;
+    pieces.flush(folder)?;
+    folder.finish()?;
+    Ok(())
+}
+
+/// The lines of the head.
+fn head_text(alloc: Global, generation: &Generation) -> Result<Vec<u8>, AllocError>
+    ensures { IfOk result (λ text. text.items ≡ lines_text (head_lines (head_of generation.now.config))) }
+{
+    let head = WorkHead::of(alloc, generation.config())?;
+    let mut text = Vec::new(alloc);
+    write_head(alloc, &mut text, &head)?;
+    Ok(text)
+}
+
+/// The last line.
+fn end_text(alloc: Global) -> Result<Vec<u8>, AllocError>
+    ensures { IfOk result (λ text. text.items ≡ lines_text (EndLine ∷ [])) }
+{
+    let mut text = Vec::new(alloc);
+    write_end(alloc, &mut text)?;
+    Ok(text)
+}
+
+/// Puts the lines of the drawn queries into the last file.
+fn put_queries<F: Folder>(
+    alloc: Global,
+    generation: &Generation,
+    pieces: &mut Pieces,
+    folder: &mut F,
+) -> Result<(), Outcome>
+    requires drawable { CanDraw generation.now.config generation.now.seed }
+    requires short { length pieces.old < piece_most }
+    requires unfinished { F.unfinished folder.old ≡ true }
+    ensures put { OnOk result (PutsText (F.files folder.old) (F.files folder.new) (F.calls folder.old) (F.calls folder.new)
+        pieces.old pieces.new (all_queries_text generation.now.config generation.now.seed)) }
+    ensures part { OnErr result (PutsTextPart (F.files folder.old) (F.files folder.new) (F.calls folder.old) (F.calls folder.new)
+        pieces.old (all_queries_text generation.now.config generation.now.seed)) }
+    ensures unfinished { F.unfinished folder.new ≡ true }
+    ensures stops { IfErr result (λ outcome. IsTrue (is_of_writing outcome)) }
+    ensures fault { IsErrOf result Outcome.WriteFault → Rose (F.faults folder.old) (F.faults folder.new) }
+    ensures faults { ¬ IsErrOf result Outcome.WriteFault → F.faults folder.new ≡ F.faults folder.old }
+{
+    let mut arena = Arena::new(alloc);
+    let mut text = Vec::new(alloc);
+    for number in 0..generation.query_count() {
+        draw_lines(alloc, generation, number, &arena, &mut text)?;
+        put_text(pieces, folder, &text)?;
+        arena = emptied(alloc, arena);
+    }
+    Ok(())
+}
+
+/// The arena without what was in it, or a fresh one where it can't be emptied.
+fn emptied(alloc: Global, mut arena: Arena) -> Arena {
+    match arena.reset() {
+        Ok(()) => arena,
+        Err(_) => Arena::new(alloc),
+    }
+}
+
+/// The lines of a drawn query, in the place of a text before.
+fn draw_lines(
+    alloc: Global,
+    generation: &Generation,
+    number: u32,
+    arena: &Arena,
+    text: &mut Vec<u8>,
+) -> Result<(), Outcome>
+    requires within { number < generation.now.config.workload.queries }
+    requires drawable { has_query generation.now.config generation.now.seed number ≡ true }
+    ensures text { OnOk result
+        (text.new.items ≡ lines_text (query_lines number (query_of generation.now.config generation.now.seed number))) }
+    ensures stops { IfErr result (λ outcome. outcome ≡ Outcome.NoMemory) }
+{
+    let query = draw_query(
+        alloc,
+        generation.config(),
+        generation.schema(),
+        generation.reach(),
+        generation.seed(),
+        number,
+        arena,
+    )?;
+    text.clear();
+    write_query(alloc, text, number, &query)?;
+    Ok(())
+}
