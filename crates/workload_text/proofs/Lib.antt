@@ -10,3 +10,4 @@ pub mod LineLemmas
 pub mod PassLemmas
 pub mod HeadPassLemmas
 pub mod QueryPassLemmas
+pub mod ReadingLemmas

@@ -25,7 +25,7 @@ use Rattle.workload_text.proofs.LineLemmas.{list_all-map, map-back, three}
 use Rattle.workload_text.proofs.PassLemmas.{Passes, Passes-append, after_all, after_all-append, text_line, broken-late, verdict-passes, lines_of-lines_text}
 use Rattle.workload_text.proofs.HeadPassLemmas.{Leads, Leads-append, Leads-cons, edges_from, head-pass}
 
-small-below : (n m : ℕ) → nat_lt n m ≡ true → n < m
+pub small-below : (n m : ℕ) → nat_lt n m ≡ true → n < m
 small-below n m is = grind (arith, nat_tests)
 
 -- ---- the words of a conjunct

@@ -11,7 +11,9 @@ use query_terms::Query;
 use std::alloc::Global;
 use std::marker::Model;
 
-/// A head, and the queries under it, at most 1000.
+/// A head, and the queries under it.
+///
+/// They keep the rules on heads and queries.
 #[derive(Drop)]
 pub struct Workload<'a> {
     head: WorkHead,
@@ -19,15 +21,14 @@ pub struct Workload<'a> {
 }
 
 impl<'a> Model for Workload<'a> {
-    ghost use Rattle.std.specs.Prelude.{◌≤◌, length};
-    ghost use Rattle.workload_text.specs.Values.{WorkValue, queries_most};
+    ghost use Rattle.workload_text.specs.Values.{IsWork, WorkValue};
     ghost use Rattle.workload_text.specs.State.{values_of};
 
     ghost Value = { WorkValue };
 
     ghost view = { λ work. record { head = work.head; queries = values_of work.queries.items } };
 
-    ghost invariant = { λ work. length work.queries.items ≤ queries_most };
+    ghost invariant = { λ work. IsWork record { head = work.head; queries = values_of work.queries.items } };
 }
 
 impl<'a> Workload<'a> {
