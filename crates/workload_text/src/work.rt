@@ -3,6 +3,7 @@
 ghost use Rattle.std.specs.Prelude.{◌≡◌, ◌<◌, ℕ, length, slice_get, Some, Ok, IfOk, IsErrOf};
 ghost use Rattle.query_terms.specs.View.{query_value};
 ghost use Rattle.workload_text.specs.Rules.{verdict_of, IsFirstBroken};
+ghost use Rattle.workload_text.specs.Values.{IsWork};
 
 use crate::head::WorkHead;
 use crate::reader::{WorkloadError, read_lines};
@@ -34,14 +35,16 @@ impl<'a> Model for Workload<'a> {
 impl<'a> Workload<'a> {
     /// What the queries are about.
     pub fn head(&self) -> &WorkHead
-        ensures { result.now ≡ self.now.head }
+        ensures head { result.now ≡ self.now.head }
+        ensures work { IsWork self.now }
     {
         &self.head
     }
 
     /// The number of queries.
     pub fn count(&self) -> u32
-        ensures { result ≡ length self.now.queries }
+        ensures count { result ≡ length self.now.queries }
+        ensures work { IsWork self.now }
     {
         self.queries.len() as u32
     }
@@ -49,7 +52,8 @@ impl<'a> Workload<'a> {
     /// The query with a number, counted from 0.
     pub fn query(&self, i: u32) -> &Query<'a>
         requires { i < length self.now.queries }
-        ensures { slice_get self.now.queries i ≡ Some (query_value result.now) }
+        ensures query { slice_get self.now.queries i ≡ Some (query_value result.now) }
+        ensures work { IsWork self.now }
     {
         &self.queries[i as usize]
     }
