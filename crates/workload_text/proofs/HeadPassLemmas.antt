@@ -1,7 +1,7 @@
 -- The lines of a head pass.
-use Rattle.std.proofs.Common.{◌≡◌, ◌≢◌, ℕ, zero, suc, ◌+◌, ◌<◌, ◌≤◌, ◌^◌, Bool, true, false, not, ◌&&◌, ◌||◌, ◌==◌, if◌then◌else◌, inl, inr, decimal, Option, Some, None, List, [], ◌∷◌, ◌++◌, length, map, get_or, All, AllPairs, refl, sym, ap, subst, ◌∙◌, arith, true≢false}
-use Rattle.std.specs.Prelude.{⊤, nat_lt}
-use Rattle.std.specs.List.{list_all, list_any}
+use Rattle.std.proofs.Common.{◌≡◌, ◌≢◌, ℕ, zero, suc, ◌+◌, ◌<◌, ◌≤◌, ◌^◌, Bool, true, false, not, ◌==◌, if◌then◌else◌, inl, inr, decimal, Option, Some, None, List, [], ◌∷◌, ◌++◌, length, map, get_or, All, AllPairs, refl, sym, ap, subst, ◌∙◌, arith}
+use Rattle.std.specs.Prelude.{nat_lt}
+use Rattle.std.specs.List.{list_any}
 use Rattle.std.specs.Str.{bytes_eq}
 use Rattle.std.proofs.lemmas.Bool.{eqb-true}
 use Rattle.std.proofs.lemmas.Bool.Decides.{nat_tests}
@@ -18,10 +18,10 @@ use Rattle.sel_algebra.specs.declared.vocabulary.Kind.{Kind}
 use Rattle.schema_graph.specs.declared.edge.SchemaEdge.{SchemaEdge}
 use Rattle.schema_graph.specs.Edge.{ends, IsSchemaEdge}
 use Rattle.workload_text.specs.declared.sorts.Sort.{Sort}
-use Rattle.workload_text.specs.declared.sorts.Sort.TheVariants.{First, Label, NodeType, Edge, Query, Rule, Conjunct, End}
+use Rattle.workload_text.specs.declared.sorts.Sort.TheVariants.{Label, NodeType, Edge}
 use Rattle.workload_text.specs.Values.{HeadValue, IsHead}
 use Rattle.workload_text.specs.Lines.{WorkLine, is_line, is_format, label_lines, type_lines, edge_line, head_lines}
-use Rattle.workload_text.specs.Lines.WorkLine.{FirstLine, LabelLine, TypeLine, EdgeLine}
+use Rattle.workload_text.specs.Lines.WorkLine.{FirstLine, LabelLine, TypeLine}
 use Rattle.workload_text.specs.Sofar.{Sofar, before_all, no_query, after, after_conjunct, number}
 use Rattle.workload_text.specs.Rules.{is_new_name, is_new_edge, is_at, is_normal_at, same_op, follows, after_end, broken, broken_by_line}
 use Rattle.workload_text.proofs.LineLemmas.{three}

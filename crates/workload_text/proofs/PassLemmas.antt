@@ -1,5 +1,5 @@
 -- Lines that may stand one after another and break no rule, and the verdict of their text.
-use Rattle.std.proofs.Common.{◌≡◌, ℕ, ◌+◌, ◌<◌, Bool, true, false, not, ◌&&◌, ◌||◌, ◌==◌, if◌then◌else◌, Option, Some, None, Result, Ok, Err, List, [], ◌∷◌, ◌++◌, length, map, get_or, IsTrue, All, refl, sym, ap, subst, ◌∙◌, arith, true≢false}
+use Rattle.std.proofs.Common.{◌≡◌, ℕ, ◌+◌, Bool, true, false, not, ◌||◌, ◌==◌, if◌then◌else◌, Option, Some, None, Ok, Err, List, [], ◌∷◌, ◌++◌, length, map, refl, sym, ap, subst, ◌∙◌, arith, true≢false}
 use Rattle.std.specs.Prelude.{⊤, IfSome, is_some}
 use Rattle.std.specs.List.{list_all, slice_split, join_with_byte, flat_map}
 use Rattle.std.proofs.lemmas.Bool.{ne_eqb}
@@ -14,7 +14,7 @@ use Rattle.workload_text.specs.declared.sorts.Sort.TheVariants.{First, Label, No
 use Rattle.workload_text.specs.Values.{WorkValue}
 use Rattle.workload_text.specs.Lines.{WorkLine, line_words, line_bytes, is_line, lines_text}
 use Rattle.workload_text.specs.Lines.WorkLine.{FirstLine, LabelLine, TypeLine, EdgeLine, QueryLine, RuleLine, ConjunctLine, EndLine}
-use Rattle.workload_text.specs.Forms.{first_of, first_word, sort_of, line_of}
+use Rattle.workload_text.specs.Forms.{first_of, sort_of}
 use Rattle.workload_text.specs.Sofar.{Sofar, after, after_conjunct, value_of}
 use Rattle.workload_text.specs.Rules.{TextLine, Verdict, sort_of_line, said, follows, may_follow, heads_occur, goes_on, after_end, of_said, in_limits, has_chains, has_same_ends, has_returning_words, rule_1, rule_2, rule_3, rule_4, rule_5, rule_6, rule_7, rule_8, rule_9, broken, broken_by_line, after_line, after_said, verdict, unless_broken}
 use Rattle.workload_text.proofs.LineLemmas.{W, is_word_byte, Lacks-from, list_all-join, line-words, words_of-line, line_of-line, line_of-bytes}

@@ -1,7 +1,7 @@
 -- The lines of queries pass.
-use Rattle.std.proofs.Common.{◌≡◌, ◌≢◌, ℕ, zero, suc, ◌+◌, ◌<◌, ◌≤◌, ◌^◌, Bool, true, false, not, ◌&&◌, ◌||◌, ◌==◌, if◌then◌else◌, inl, inr, ◌⊎◌, decimal, Option, Some, None, is_some, Ok, List, [], ◌∷◌, ◌++◌, length, map, get_or, All, refl, sym, ap, subst, ◌∙◌, arith, true≢false}
-use Rattle.std.specs.Prelude.{⊤, nat_lt, nat_le}
-use Rattle.std.specs.List.{list_all, list_any, flat_map}
+use Rattle.std.proofs.Common.{◌≡◌, ℕ, ◌+◌, ◌<◌, ◌≤◌, ◌^◌, Bool, true, false, not, ◌&&◌, ◌||◌, ◌==◌, if◌then◌else◌, decimal, Option, Some, None, is_some, Ok, List, [], ◌∷◌, ◌++◌, length, map, All, refl, sym, ap, subst, ◌∙◌, arith, true≢false}
+use Rattle.std.specs.Prelude.{nat_lt}
+use Rattle.std.specs.List.{list_all, flat_map}
 use Rattle.std.proofs.lemmas.Bool.{eqb-true, eq-eqb}
 use Rattle.std.proofs.lemmas.Bool.Decides.{nat_tests}
 use Rattle.std.proofs.lemmas.List.{append_assoc, append-nil, length-append, length-map}
@@ -12,17 +12,17 @@ use Rattle.gm_text.proofs.DecimalLemmas.{decimal_is_canonical, digits_value_deci
 use Rattle.sel_algebra.specs.declared.vocabulary.Symbol.{Symbol}
 use Rattle.schema_graph.specs.declared.edge.SchemaEdge.{SchemaEdge}
 use Rattle.query_terms.specs.Store.{same_bool}
-use Rattle.query_terms.specs.Values.{ConjunctValue, RuleValue, QueryValue, occurs, differ, arity_built, arity_of, have_heads, has_class, has_edge, is_word, is_conjunct, has_heads, is_rule}
-use Rattle.query_terms.proofs.SpanLemmas.{both, and_true, list_all_more}
+use Rattle.query_terms.specs.Values.{ConjunctValue, RuleValue, QueryValue, occurs, differ, arity_built, arity_of, have_heads, has_class, has_edge, is_word, is_conjunct, has_heads}
+use Rattle.query_terms.proofs.SpanLemmas.{both, and_true}
 use Rattle.workload_text.specs.declared.sorts.Sort.{Sort}
-use Rattle.workload_text.specs.declared.sorts.Sort.TheVariants.{First, Label, NodeType, Edge, Query, Rule, Conjunct, End}
-use Rattle.workload_text.specs.Values.{HeadValue, WorkValue, IsHead, IsConjunct, IsRule, IsQuery, IsWork, labels_of}
-use Rattle.workload_text.specs.Lines.{WorkLine, Asked, WrittenSymbol, is_line, is_symbol, is_path, is_union, has_heads_of, has_classes_of, written, conjunct_line, rule_lines, query_lines, queries_lines, work_lines, work_text, asked_of, head_lines, IsReading}
-use Rattle.workload_text.specs.Lines.WorkLine.{QueryLine, RuleLine, ConjunctLine, EndLine}
+use Rattle.workload_text.specs.declared.sorts.Sort.TheVariants.{Edge, Query, Rule, Conjunct, End}
+use Rattle.workload_text.specs.Values.{HeadValue, WorkValue, IsConjunct, IsRule, IsQuery, IsWork, labels_of}
+use Rattle.workload_text.specs.Lines.{Asked, is_line, is_symbol, is_path, is_union, has_heads_of, has_classes_of, written, conjunct_line, rule_lines, query_lines, queries_lines, work_lines, work_text, asked_of, head_lines, IsReading}
+use Rattle.workload_text.specs.Lines.WorkLine.{QueryLine, RuleLine, EndLine}
 use Rattle.workload_text.specs.Sofar.{Sofar, before_all, after, after_conjunct, number, symbol_of, symbols_of, ended_rules, ended_queries, open_query, value_of}
 use Rattle.workload_text.specs.Rules.{follows, after_end, heads_occur, broken, broken_by_line, is_next_query, are_new_heads, are_small_heads, Verdict, verdict, verdict_of}
 use Rattle.workload_text.proofs.LineLemmas.{list_all-map, map-back, three}
-use Rattle.workload_text.proofs.PassLemmas.{Passes, Passes-append, after_all, after_all-append, text_line, broken-late, verdict-passes, lines_of-lines_text}
+use Rattle.workload_text.proofs.PassLemmas.{text_line, broken-late, verdict-passes, lines_of-lines_text}
 use Rattle.workload_text.proofs.HeadPassLemmas.{Leads, Leads-append, Leads-cons, edges_from, head-pass}
 
 pub small-below : (n m : ℕ) → nat_lt n m ≡ true → n < m

@@ -1,5 +1,5 @@
 -- Lines that pass are those of a head and queries that keep the rules.
-use Rattle.std.proofs.Common.{◌≡◌, ◌↔◌, ℕ, if◌then◌else◌, ◌+◌, ◌<◌, ◌≤◌, ◌^◌, Bool, true, false, not, ◌&&◌, ◌||◌, ◌==◌, decimal, Option, Some, None, is_some, Result, Ok, Err, List, [], ◌∷◌, ◌++◌, length, map, get_or, All, refl, sym, ap, subst, ◌∙◌, arith, true≢false}
+use Rattle.std.proofs.Common.{◌≡◌, ℕ, if◌then◌else◌, ◌+◌, ◌<◌, ◌≤◌, ◌^◌, Bool, true, false, not, ◌&&◌, ◌||◌, ◌==◌, decimal, Some, is_some, Ok, Err, List, [], ◌∷◌, ◌++◌, length, map, get_or, All, refl, sym, ap, subst, ◌∙◌, arith}
 use Rattle.std.specs.Prelude.{⊤, nat_lt}
 use Rattle.std.specs.List.{list_all, flat_map}
 use Rattle.std.proofs.lemmas.Bool.{eqb-true}
@@ -13,12 +13,10 @@ use Rattle.gm_text.specs.Lines.{lines_of}
 use Rattle.gm_text.proofs.DecimalLemmas.{canonical_is_decimal}
 use Rattle.sel_algebra.specs.declared.vocabulary.Op.{Op}
 use Rattle.sel_algebra.specs.declared.vocabulary.Kind.{Kind}
-use Rattle.sel_algebra.specs.declared.vocabulary.Symbol.{Symbol}
 use Rattle.schema_graph.specs.declared.edge.SchemaEdge.{SchemaEdge}
 use Rattle.query_terms.specs.Store.{same_bool}
-use Rattle.query_terms.specs.Values.{ConjunctValue, RuleValue, QueryValue, occurs, differ, arity_built, arity_of, have_heads, has_class, has_edge, is_word, is_conjunct, has_heads}
+use Rattle.query_terms.specs.Values.{ConjunctValue, RuleValue, QueryValue, differ, arity_built, arity_of, have_heads, has_class, has_edge, is_word, is_conjunct}
 use Rattle.query_terms.proofs.SpanLemmas.{both, and_true}
-use Rattle.workload_text.specs.declared.sorts.Sort.{Sort}
 use Rattle.workload_text.specs.declared.sorts.Sort.TheVariants.{First, Label, NodeType, Edge, Query, Rule, Conjunct, End}
 use Rattle.workload_text.specs.Values.{HeadValue, WorkValue, IsConjunct, IsRule, IsQuery, IsWork, is_short_word, is_short_union}
 use Rattle.workload_text.specs.Lines.{WorkLine, Asked, WrittenSymbol, is_line, is_symbol, is_path, is_union, has_heads_of, has_classes_of, written, label_lines, type_lines, edge_line, head_lines, conjunct_line, rule_lines, query_lines, queries_lines, work_lines, work_text, lines_text, IsReading}
