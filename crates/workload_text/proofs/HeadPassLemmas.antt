@@ -112,7 +112,8 @@ Leads-append s t u xs ys first others = (
   after_all-append s xs ys ∙ ap (λ r. after_all r ys) first.1 ∙ others.1,
 )
 
-pub Leads-cons : (s r t : Sofar) (x : WorkLine) (xs : List WorkLine) → is_line s.head.format x ≡ true → broken s (text_line x) ≡ None → after s x ≡ r → Leads r xs t → Leads s (x ∷ xs) t
+pub Leads-cons : (s r t : Sofar) (x : WorkLine) (xs : List WorkLine) → is_line s.head.format x ≡ true → broken s (text_line x) ≡ None → after s x ≡ r → Leads r xs t
+    → Leads s (x ∷ xs) t
 Leads-cons s r t x xs is ok to others =
     ((is, ok, subst (λ q. Passes q xs) (sym to) others.0), ap (λ q. after_all q xs) to ∙ others.1)
 
@@ -197,10 +198,11 @@ head-lines-pass f (l ∷ ls) (t ∷ ts) (k ∷ ks) (e ∷ es) is =
     let few_kinds : length (k ∷ ks) ≤ 64 = omega (arith, is.kinds, is.types.few) in
     let edge = edge-step f (l ∷ ls) (t ∷ ts) (k ∷ ks) is.labels.few few_kinds (Some NodeType) e [] es refl refl refl
     (All-head (IsSchemaEdge (k ∷ ks)) e es is.schema.each_edge) (All-head (λ x. x.label < length (l ∷ ls)) e es is.named) is.schema.edges_differ (omega arith) in
-    Leads-cons before_all begun _ (FirstLine f) (LabelLine l ∷ (label_lines ls ++ TypeLine t k ∷ (type_lines ts ks ++ edge_line e ∷ map edge_line es))) first (broken-late before_all (FirstLine f) first refl refl refl) refl
+    let after_labels : List WorkLine = TypeLine t k ∷ (type_lines ts ks ++ edge_line e ∷ map edge_line es) in
+    Leads-cons before_all begun _ (FirstLine f) (LabelLine l ∷ (label_lines ls ++ after_labels)) first (broken-late before_all (FirstLine f) first refl refl refl) refl
     (Leads-cons begun (labels_at f (l ∷ [])) _ (LabelLine l) _ label
     (broken-late begun (LabelLine l) label refl refl refl) refl
-    (Leads-append (labels_at f (l ∷ [])) (labels_at f (l ∷ ls)) _ (label_lines ls) (TypeLine t k ∷ (type_lines ts ks ++ edge_line e ∷ map edge_line es))
+    (Leads-append (labels_at f (l ∷ [])) (labels_at f (l ∷ ls)) _ (label_lines ls) after_labels
     (labels-pass f (l ∷ []) ls (All-tail IsName l ls is.labels.each) is.labels.differ (omega (arith, is.labels.few)))
     (Leads-cons (labels_at f (l ∷ ls)) (types_at f (l ∷ ls) (t ∷ []) (k ∷ [])) _ (TypeLine t k) _ type
     (broken-late (labels_at f (l ∷ ls)) (TypeLine t k) type refl refl refl) refl

@@ -54,7 +54,8 @@ list_all-join p b passes (w ∷ v ∷ words) all =
     list_all-append p w (b ∷ join_with_byte b (v ∷ words))
     ∙ and_true (both _ _ all).0 (and_true passes (list_all-join p b passes (v ∷ words) (both _ _ all).1))
 
-pub list_all-map : {X Y : Type 0} (p : Y → Bool) (q : X → Bool) (f : X → Y) → ((x : X) → q x ≡ true → p (f x) ≡ true) → (xs : List X) → list_all q xs ≡ true → list_all p (map f xs) ≡ true
+pub list_all-map : {X Y : Type 0} (p : Y → Bool) (q : X → Bool) (f : X → Y) → ((x : X) → q x ≡ true → p (f x) ≡ true) → (xs : List X) → list_all q xs ≡ true
+    → list_all p (map f xs) ≡ true
 list_all-map p q f each [] all = refl
 list_all-map p q f each (x ∷ xs) all = and_true (each x (both _ _ all).0) (list_all-map p q f each xs (both _ _ all).1)
 

@@ -106,7 +106,7 @@ module _ (h : HeadValue) (queries : List QueryValue) (asked : Asked) (rules : Li
 
 -- ---- rules
 
--- an LF may follow, and a line of this sort
+-- after a line of the first sort, which isn't `end`, one of the second may stand
 abbrev MayStand : Sort → Sort → Type 0
 MayStand last sort = (after_end (Some last) ≡ false) × (follows (Some last) sort ≡ true)
 

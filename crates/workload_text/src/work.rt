@@ -2,6 +2,7 @@
 
 ghost use Rattle.std.specs.Prelude.{◌≡◌, ◌<◌, ℕ, length, slice_get, Some, Ok, IfOk, IsErrOf};
 ghost use Rattle.query_terms.specs.View.{query_value};
+ghost use Rattle.workload_text.specs.Lines.{IsReading};
 ghost use Rattle.workload_text.specs.Rules.{verdict_of, IsFirstBroken};
 ghost use Rattle.workload_text.specs.Values.{IsWork};
 
@@ -69,6 +70,7 @@ pub fn read_workload<'a>(
     arena: &'a Arena,
 ) -> Result<Workload<'a>, WorkloadError>
     ensures value { IfOk result (λ work. verdict_of bytes.now ≡ Ok work) }
+    ensures reading { IfOk result (λ work. IsReading bytes.now work) }
     ensures bad { (line rule : ℕ) → IsErrOf result (WorkloadError.BadWorkload line rule) → IsFirstBroken bytes.now line rule }
 {
     let reading = read_lines(alloc, bytes, arena)?;

@@ -9,3 +9,6 @@ new-requires c = (reading c.args.bytes.now (value_of (sofar_of c.in_ok-reading.r
 pub invariant_of-result : goal.invariant_of-result
 invariant_of-result c =
     rw c.in_ok-head.ensures (reading c.args.bytes.now (value_of (sofar_of c.in_ok-reading.reading)) c.in_ok-reading.ensures.value).0
+
+pub returns-clause-reading : goal.returns-clause-reading
+returns-clause-reading c = rw c.in_ok-head.ensures (reading c.args.bytes.now (value_of (sofar_of c.in_ok-reading.reading)) c.in_ok-reading.ensures.value)
