@@ -7,3 +7,7 @@ pub mod ReaderLemmas
 pub mod SoundLemmas
 pub mod WritingLemmas
 pub mod LineLemmas
+pub mod PassLemmas
+pub mod HeadPassLemmas
+pub mod QueryPassLemmas
+pub mod ReadingLemmas

@@ -54,11 +54,12 @@ list_all-join p b passes (w ∷ v ∷ words) all =
     list_all-append p w (b ∷ join_with_byte b (v ∷ words))
     ∙ and_true (both _ _ all).0 (and_true passes (list_all-join p b passes (v ∷ words) (both _ _ all).1))
 
-list_all-map : {X Y : Type 0} (p : Y → Bool) (q : X → Bool) (f : X → Y) → ((x : X) → q x ≡ true → p (f x) ≡ true) → (xs : List X) → list_all q xs ≡ true → list_all p (map f xs) ≡ true
+pub list_all-map : {X Y : Type 0} (p : Y → Bool) (q : X → Bool) (f : X → Y) → ((x : X) → q x ≡ true → p (f x) ≡ true) → (xs : List X) → list_all q xs ≡ true
+    → list_all p (map f xs) ≡ true
 list_all-map p q f each [] all = refl
 list_all-map p q f each (x ∷ xs) all = and_true (each x (both _ _ all).0) (list_all-map p q f each xs (both _ _ all).1)
 
-map-back : {X Y : Type 0} (q : X → Bool) (f : X → Y) (g : Y → X) → ((x : X) → q x ≡ true → g (f x) ≡ x) → (xs : List X) → list_all q xs ≡ true → map g (map f xs) ≡ xs
+pub map-back : {X Y : Type 0} (q : X → Bool) (f : X → Y) (g : Y → X) → ((x : X) → q x ≡ true → g (f x) ≡ x) → (xs : List X) → list_all q xs ≡ true → map g (map f xs) ≡ xs
 map-back q f g each [] all = refl
 map-back q f g each (x ∷ xs) all = λ i. each x (both _ _ all).0 i ∷ map-back q f g each xs (both _ _ all).1 i
 
@@ -258,7 +259,7 @@ expr-word true ws is =
     and_true refl (list_all-append is_word_byte (union_word ws) (codes ")*") ∙ and_true (union-word ws is) refl)
 expr-word false ws is = union-word ws is
 
-three : (a b c : Bool) → (a && b && c) ≡ true → (a ≡ true) × (b ≡ true) × (c ≡ true)
+pub three : (a b c : Bool) → (a && b && c) ≡ true → (a ≡ true) × (b ≡ true) × (c ≡ true)
 three true true true is = (refl, refl, refl)
 three true true false is = cc
 three true false c is = cc

@@ -1,7 +1,6 @@
--- A text in which no line breaks a rule has a head that keeps the rules on heads.
-use Rattle.std.proofs.Common.{◌≡◌, ◌≢◌, ◌⊎◌, ℕ, ◌+◌, ◌<◌, ◌≤◌, Bool, true, false, not, ◌&&◌, if◌then◌else◌, nat_lt, List, [], ◌∷◌, ◌++◌, length, map, drop, get_or, Option, Some, None, is_some, Result, Ok, Err, All, AllPairs, refl, sym, ap, subst, arith}
-use Rattle.std.specs.Prelude.{IfSome, option_map, option_and_then}
-use Rattle.std.specs.List.{list_any, list_all}
+-- Lines that break no rule say a head that keeps the rules on heads.
+use Rattle.std.proofs.Common.{◌≡◌, ◌≢◌, ◌⊎◌, ℕ, ◌+◌, ◌<◌, ◌≤◌, Bool, true, false, not, ◌&&◌, nat_lt, List, [], ◌∷◌, ◌++◌, length, get_or, Option, Some, None, All, AllPairs, refl, sym, ap, arith}
+use Rattle.std.specs.List.{list_any}
 use Rattle.std.specs.Str.{bytes_eq}
 use Rattle.std.proofs.lemmas.Bool.Decides.{nat_tests}
 use Rattle.std.proofs.lemmas.List.{length-append, get_or_append_left}
@@ -9,9 +8,7 @@ use Rattle.std.proofs.lemmas.List.Elements.{All-nil, All-push, All-weaker}
 use Rattle.std.proofs.lemmas.List.Folds.{list_any_at}
 use Rattle.std.proofs.lemmas.List.Quantifiers.{all_pairs_push}
 use Rattle.std.proofs.lemmas.Slice.Eq.{bytes_eq-Decides}
-use Rattle.gm_text.specs.Name.{IsName, is_name}
-use Rattle.gm_text.specs.Decimal.{is_canonical}
-use Rattle.gm_text.specs.Lines.{words_of, lines_of}
+use Rattle.gm_text.specs.Name.{IsName}
 use Rattle.sel_algebra.specs.declared.vocabulary.Op.{Op}
 use Rattle.sel_algebra.specs.declared.vocabulary.Kind.{Kind}
 use Rattle.sel_algebra.specs.declared.vocabulary.Kind.TheVariants.{Fixed}
@@ -22,12 +19,12 @@ use Rattle.schema_graph.specs.Edge.{ends, IsSchemaEdge}
 use Rattle.schema_graph.specs.Schema.{IsSchema}
 use Rattle.workload_text.specs.declared.sorts.Sort.{Sort}
 use Rattle.workload_text.specs.declared.sorts.Sort.TheVariants.{First, Label, NodeType, Edge, Query, Rule, Conjunct, End}
-use Rattle.workload_text.specs.Values.{HeadValue, WorkValue, IsHead}
-use Rattle.workload_text.specs.Lines.{WorkLine, is_format, has_heads_of, has_classes_of}
+use Rattle.workload_text.specs.Values.{HeadValue, IsHead}
+use Rattle.workload_text.specs.Lines.{WorkLine, is_format, is_line}
 use Rattle.workload_text.specs.Lines.WorkLine.{FirstLine, LabelLine, TypeLine, EdgeLine, QueryLine, RuleLine, ConjunctLine, EndLine}
-use Rattle.workload_text.specs.Forms.{is_variable, are_numbers, are_conjunct_words, one_word, two_words, four_words, first_word, rest_of, label_line, query_with, asked_of_words, kind_of_word, op_of_word, line_of_sort}
-use Rattle.workload_text.specs.Sofar.{Sofar, number, before_all, after, value_of}
-use Rattle.workload_text.specs.Rules.{TextLine, sort_of_line, said, follows, may_follow, is_new_name, is_new_edge, is_at, is_normal_at, same_op, in_limits, after_end, broken, rule_1, rule_2, rule_3, rule_4, rule_5, rule_6, rule_7, rule_8, rule_9, after_line, after_said, unless_broken, verdict, verdict_of}
+use Rattle.workload_text.specs.Sofar.{Sofar, number, before_all, after}
+use Rattle.workload_text.specs.Rules.{follows, is_new_name, is_new_edge, is_at, is_normal_at, same_op, in_limits}
+use Rattle.workload_text.proofs.PassLemmas.{sort_line}
 
 -- ---- lists
 
@@ -39,22 +36,22 @@ none_passes p xs none k d within = by (p (get_or xs k d)) refl
     by true is = absurd (cc (list_any_at p xs k d within is, none))
     by false is = is
 
-two_hold : (a b : Bool) → (a && b) ≡ true → (a ≡ true) × (b ≡ true)
+pub two_hold : (a b : Bool) → (a && b) ≡ true → (a ≡ true) × (b ≡ true)
 two_hold true true h = (refl, refl)
 two_hold true false h = absurd (cc)
 two_hold false b h = absurd (cc)
 
-is_false : (b : Bool) → not b ≡ true → b ≡ false
+pub is_false : (b : Bool) → not b ≡ true → b ≡ false
 is_false true h = absurd (cc)
 is_false false h = refl
 
 -- ---- names
 
 -- few names that differ
-record AreFew (names : List (List ℕ)) : Type 0 where
-  few : length names ≤ 64
-  each : All IsName names
-  differ : AllPairs (λ a b. a ≢ b) names
+pub record AreFew (names : List (List ℕ)) : Type 0 where
+  pub few : length names ≤ 64
+  pub each : All IsName names
+  pub differ : AllPairs (λ a b. a ≢ b) names
 
 new_name : (names : List (List ℕ)) (name : List ℕ) → AreFew names → IsName name → is_new_name name names ≡ true → AreFew (names ++ name ∷ [])
 new_name names name are is new =
@@ -98,13 +95,13 @@ at_ends d e same =
     grind (arith, nat_tests)
 
 -- what is true of an edge that is new
-record IsNewEdge (labels : ℕ) (kinds : List Kind) (edges : List SchemaEdge) (e : SchemaEdge) : Type 0 where
-  room : length edges < 128
-  source : e.source < length kinds
-  label : e.label < labels
-  target : e.target < length kinds
-  other : All (λ d. is_at e.source e.label e.target d ≡ false) edges
-  normal : IsNormal e.op (kind_at kinds e.source) (kind_at kinds e.target)
+pub record IsNewEdge (labels : ℕ) (kinds : List Kind) (edges : List SchemaEdge) (e : SchemaEdge) : Type 0 where
+  pub room : length edges < 128
+  pub source : e.source < length kinds
+  pub label : e.label < labels
+  pub target : e.target < length kinds
+  pub other : All (λ d. is_at e.source e.label e.target d ≡ false) edges
+  pub normal : IsNormal e.op (kind_at kinds e.source) (kind_at kinds e.target)
 
 six_hold : (a b c d e f : Bool) → (a && b && c && d && e && f) ≡ true
     → (a ≡ true) × (b ≡ true) × (c ≡ true) × (d ≡ true) × (e ≡ true) × (f ≡ true)
@@ -116,7 +113,7 @@ six_hold true true false d e f h = absurd (cc)
 six_hold true false c d e f h = absurd (cc)
 six_hold false b c d e f h = absurd (cc)
 
-is_new : (labels : ℕ) (kinds : List Kind) (edges : List SchemaEdge) (e : SchemaEdge) → is_new_edge labels kinds edges e ≡ true → IsNewEdge labels kinds edges e
+pub is_new : (labels : ℕ) (kinds : List Kind) (edges : List SchemaEdge) (e : SchemaEdge) → is_new_edge labels kinds edges e ≡ true → IsNewEdge labels kinds edges e
 is_new labels kinds edges e new =
     let (room, source, label, target, other, normal) = six_hold (nat_lt (length edges) 128) (nat_lt e.source (length kinds)) (nat_lt e.label labels)
     (nat_lt e.target (length kinds)) (not (list_any (is_at e.source e.label e.target) edges)) (is_normal_at kinds e.source e.target e.op) new in
@@ -140,79 +137,10 @@ new_edge labels kinds edges e few is new = record {
       (λ k d within same. absurd (cc (at_ends (get_or edges k d) e same, new.other k d within)));
 }
 
--- ---- lines
-
--- the sort of a line
-abbrev sort_line : WorkLine → Sort
-sort_line (FirstLine format) = First
-sort_line (LabelLine name) = Label
-sort_line (TypeLine name kind) = NodeType
-sort_line (EdgeLine source label target op) = Edge
-sort_line (QueryLine number asked) = Query
-sort_line (RuleLine heads) = Rule
-sort_line (ConjunctLine src trg star words) = Conjunct
-sort_line EndLine = End
-
--- the format and the names of a line have their form
-abbrev is_named : WorkLine → Bool
-is_named (FirstLine format) = is_format format
-is_named (LabelLine name) = is_name name
-is_named (TypeLine name kind) = is_name name
-is_named line = true
-
--- a line of this sort, with its format and its names in their form
-abbrev Fits : Sort → WorkLine → Type 0
-Fits sort line = (sort_line line ≡ sort) × (is_named line ≡ true)
-
-if_then : {A B : Type 0} (P : B → Type 0) (f : A → Option B) (o : Option A) → ((x : A) → IfSome (f x) P) → IfSome (option_and_then f o) P
-if_then P f None all = tt
-if_then P f (Some x) all = all x
-
-if_mapped : {A B : Type 0} (P : B → Type 0) (f : A → B) (o : Option A) → ((x : A) → P (f x)) → IfSome (option_map f o) P
-if_mapped P f None all = tt
-if_mapped P f (Some x) all = all x
-
-if_tested : {B : Type 0} (P : B → Type 0) (b : Bool) (o : Option B) → (b ≡ true → IfSome o P) → IfSome (if b then o else None) P
-if_tested P true o holds = holds refl
-if_tested P false o holds = tt
-
-format_fits : (a b : Bool) → IfSome (option_map FirstLine (if a then Some 1 else (if b then Some 2 else None))) (Fits First)
-format_fits true b = (refl, refl)
-format_fits false true = (refl, refl)
-format_fits false false = tt
-
--- what a line of a sort says is a line of this sort
-line_fits : (format : ℕ) (sort : Sort) (word : List ℕ) (words : List (List ℕ)) → IfSome (line_of_sort format sort word words) (Fits sort)
-line_fits format First word words = if_then (Fits First) _ (one_word words) (λ w. format_fits _ _)
-line_fits format Label word words = if_then (Fits Label) label_line (one_word words) (λ name. if_tested (Fits Label) (is_name name) _ (λ is. (refl, is)))
-line_fits format NodeType word words =
-    if_then (Fits NodeType) _ (two_words words) (λ w. if_tested (Fits NodeType) (is_name w.0) _ (λ is. if_mapped (Fits NodeType) (TypeLine w.0) (kind_of_word w.1) (λ kind. (refl, is))))
-line_fits format Edge word words =
-    if_then (Fits Edge) _ (four_words words) (λ w. if_tested (Fits Edge) (are_numbers w.0.0 w.0.1 w.1.0) _
-    (λ are. if_mapped (Fits Edge) (EdgeLine w.0.0 w.0.1 w.1.0) (op_of_word w.1.1) (λ op. (refl, refl))))
-line_fits format Query word words =
-    if_then (Fits Query) _ (four_words words) (λ w. if_then (Fits Query) (query_with format w.0.0) (asked_of_words w.0.1 w.1.0 w.1.1)
-    (λ asked. if_tested (Fits Query) (is_canonical w.0.0 && has_classes_of format asked) _ (λ is. (refl, refl))))
-line_fits format Rule word words =
-    if_tested (Fits Rule) (has_heads_of format (length words) && list_all is_variable words) (Some (RuleLine (map (drop 1) words))) (λ is. (refl, refl))
-line_fits format Conjunct word words =
-    if_then (Fits Conjunct) _ (two_words words) (λ w. if_tested (Fits Conjunct) (are_conjunct_words word w.0 w.1) _ (λ are. (refl, refl)))
-line_fits format End word [] = (refl, refl)
-line_fits format End word (w ∷ words) = tt
-
--- a line that may stand here says what may stand here
-said_follows : (s : Sofar) (line : TextLine) (l : WorkLine) (sort : Option Sort) → sort_of_line line ≡ sort → may_follow s.last sort ≡ true → said s line ≡ Some l
-    → (follows s.last (sort_line l) ≡ true) × (is_named l ≡ true)
-said_follows s line l None is may says = absurd (cc may)
-said_follows s line l (Some sort) is may says =
-    let found : line_of_sort s.head.format sort (first_word line.0) (rest_of (words_of line.0)) ≡ Some l = rw is at says in
-    let fits : Fits sort l = subst (λ o. IfSome o (Fits sort)) found (line_fits s.head.format sort (first_word line.0) (rest_of (words_of line.0))) in
-    (subst (λ x. follows s.last x ≡ true) (sym fits.0) may, fits.1)
-
 -- ---- the head
 
 -- how far the lines of the head have come
-abbrev stage : Option Sort → ℕ
+abbrev pub stage : Option Sort → ℕ
 stage None = 0
 stage (Some First) = 1
 stage (Some Label) = 2
@@ -220,14 +148,14 @@ stage (Some NodeType) = 3
 stage (Some sort) = 4
 
 -- how far they must have come before a line
-abbrev needs : Sort → ℕ
+abbrev pub needs : Sort → ℕ
 needs First = 0
 needs Label = 1
 needs NodeType = 2
 needs Edge = 3
 needs sort = 4
 
-comes : (last : Option Sort) (sort : Sort) → follows last sort ≡ true → needs sort ≤ stage last
+pub comes : (last : Option Sort) (sort : Sort) → follows last sort ≡ true → needs sort ≤ stage last
 comes None sort h = grind arith
 comes (Some First) sort h = grind arith
 comes (Some Label) sort h = grind arith
@@ -239,19 +167,19 @@ comes (Some Conjunct) sort h = grind arith
 comes (Some End) sort h = grind arith
 
 -- the head so far keeps the rules, but for the lines that haven't come yet
-record IsSound (n : ℕ) (h : HeadValue) : Type 0 where
-  format : 1 ≤ n → is_format h.format ≡ true
-  some_labels : 2 ≤ n → 0 < length h.labels
-  some_types : 3 ≤ n → 0 < length h.types
-  some_edges : 4 ≤ n → 0 < length h.schema.edges
-  labels : AreFew h.labels
-  types : AreFew h.types
-  kinds : length h.schema.kinds ≡ length h.types
-  schema : IsSchema h.schema
-  named : All (λ e. e.label < length h.labels) h.schema.edges
+pub record IsSound (n : ℕ) (h : HeadValue) : Type 0 where
+  pub format : 1 ≤ n → is_format h.format ≡ true
+  pub some_labels : 2 ≤ n → 0 < length h.labels
+  pub some_types : 3 ≤ n → 0 < length h.types
+  pub some_edges : 4 ≤ n → 0 < length h.schema.edges
+  pub labels : AreFew h.labels
+  pub types : AreFew h.types
+  pub kinds : length h.schema.kinds ≡ length h.types
+  pub schema : IsSchema h.schema
+  pub named : All (λ e. e.label < length h.labels) h.schema.edges
 
 -- before the first line
-sound_none : IsSound 0 before_all.head
+pub sound_none : IsSound 0 before_all.head
 sound_none = record {
   format = λ h. absurd (omega (arith, h));
   some_labels = λ h. absurd (omega (arith, h));
@@ -273,7 +201,7 @@ sound_none = record {
     no_names = record { few = omega arith; each = All-nil IsName; differ = λ i j d less within. absurd (omega (arith, within)) }
 
 -- after a line that is none of the head's
-sound_later : (n : ℕ) (h : HeadValue) → IsSound n h → 4 ≤ n → IsSound 4 h
+pub sound_later : (n : ℕ) (h : HeadValue) → IsSound n h → 4 ≤ n → IsSound 4 h
 sound_later n h is far = record {
   format = λ _. is.format (omega (arith, far));
   some_labels = λ _. is.some_labels (omega (arith, far));
@@ -287,7 +215,7 @@ sound_later n h is far = record {
 }
 
 -- after a line that may stand where it does and is in its limits
-sound_after : (s : Sofar) (l : WorkLine) → IsSound (stage s.last) s.head → needs (sort_line l) ≤ stage s.last → is_named l ≡ true → in_limits s l ≡ true
+pub sound_after : (s : Sofar) (l : WorkLine) → IsSound (stage s.last) s.head → needs (sort_line l) ≤ stage s.last → is_line s.head.format l ≡ true → in_limits s l ≡ true
     → IsSound (stage (after s l).last) (after s l).head
 sound_after s (FirstLine format) is may named within = record {
   format = λ _. named;
@@ -348,36 +276,8 @@ sound_after s (RuleLine heads) is may named within = sound_later (stage s.last) 
 sound_after s (ConjunctLine src trg star words) is may named within = sound_later (stage s.last) s.head is may
 sound_after s EndLine is may named within = sound_later (stage s.last) s.head is may
 
--- ---- texts
-
--- a line that breaks no rule keeps the rules 2, 4 and 5
-three_hold : (a b c d e f g h i : Bool) → ◌≡◌ {A = Option ℕ} (if not a then Some 9 else (if not b then Some 1 else (if not c then Some 2 else (if not d then Some 3
-    else (if not e then Some 4 else (if not f then Some 5 else (if not g then Some 6 else (if not h then Some 7 else (if not i then Some 8 else None))))))))) None
-    → (c ≡ true) × (e ≡ true) × (f ≡ true)
-three_hold false b c d e f g h i none = absurd (cc)
-three_hold true false c d e f g h i none = absurd (cc)
-three_hold true true false d e f g h i none = absurd (cc)
-three_hold true true true false e f g h i none = absurd (cc)
-three_hold true true true true false f g h i none = absurd (cc)
-three_hold true true true true true false g h i none = absurd (cc)
-three_hold true true true true true true g h i none = (refl, refl, refl)
-
-module _ (s : Sofar) (line : TextLine) (is : IsSound (stage s.last) s.head) (none : broken s line ≡ None) where
-  hold : (rule_2 s line ≡ true) × (rule_4 s line ≡ true) × (rule_5 s line ≡ true)
-  hold = three_hold (rule_9 s line) (rule_1 s line) (rule_2 s line) (rule_3 s line) (rule_4 s line) (rule_5 s line) (rule_6 s line) (rule_7 s line) (rule_8 s line) none
-
-  sound_said : (o : Option WorkLine) → said s line ≡ o → IsSound (stage (after_said s o).last) (after_said s o).head
-  sound_said None says = absurd (cc (ap is_some says, hold.1))
-  sound_said (Some l) says =
-      let (may, named) = said_follows s line l (sort_of_line line) refl hold.0 says in
-      let within : in_limits s l ≡ true = rw says at hold.2 in
-      sound_after s l is (comes s.last (sort_line l) may) named within
-
-  sound_line : IsSound (stage (after_line s line).last) (after_line s line).head
-  sound_line = sound_said (said s line) refl
-
 -- a head to whose end the lines have come
-whole_head : (h : HeadValue) → IsSound 4 h → IsHead h
+pub whole_head : (h : HeadValue) → IsSound 4 h → IsHead h
 whole_head h is = record {
   format = one_or_two h.format (is.format (omega arith));
   labels = record { some = is.some_labels (omega arith); few = is.labels.few; each = is.labels.each; differ = is.labels.differ };
@@ -390,36 +290,3 @@ whole_head h is = record {
   where
     one_or_two : (n : ℕ) → is_format n ≡ true → (n ≡ 1) ⊎ (n ≡ 2)
     one_or_two n h = grind (arith, nat_tests)
-
-at_end : (last : Option Sort) → after_end last ≡ true → stage last ≡ 4
-at_end None h = absurd (cc h)
-at_end (Some First) h = absurd (cc h)
-at_end (Some Label) h = absurd (cc h)
-at_end (Some NodeType) h = absurd (cc h)
-at_end (Some Edge) h = refl
-at_end (Some Query) h = refl
-at_end (Some Rule) h = refl
-at_end (Some Conjunct) h = refl
-at_end (Some End) h = refl
-
-ended_head : (s : Sofar) (n : ℕ) (v : WorkValue) (ended : Bool) → after_end s.last ≡ ended → IsSound (stage s.last) s.head
-    → ◌≡◌ {A = Result WorkValue (ℕ × ℕ)} (if ended then Ok (value_of s) else Err (n, 1)) (Ok v) → IsHead v.head
-ended_head s n v false last is ok = absurd (cc ok)
-ended_head s n v true last is ok =
-    let value : value_of s ≡ v = cc ok in
-    subst (λ w. IsHead w.head) value (whole_head s.head (subst (λ m. IsSound m s.head) (at_end s.last last) is))
-
-unless_head : (n : ℕ) (b : Option ℕ) (rest : Result WorkValue (ℕ × ℕ)) (v : WorkValue) → unless_broken n b rest ≡ Ok v
-    → (b ≡ None → rest ≡ Ok v → IsHead v.head) → IsHead v.head
-unless_head n None rest v ok more = more refl ok
-unless_head n (Some rule) rest v ok more = absurd (cc ok)
-
-lines_head : (s : Sofar) (n : ℕ) (lines : List TextLine) (v : WorkValue) → IsSound (stage s.last) s.head → verdict s n lines ≡ Ok v → IsHead v.head
-lines_head s n [] v is ok = ended_head s n v (after_end s.last) refl is ok
-lines_head s n (line ∷ lines) v is ok =
-    unless_head n (broken s line) (verdict (after_line s line) (n + 1) lines) v ok
-    (λ none rest. lines_head (after_line s line) (n + 1) lines v (sound_line s line is none) rest)
-
--- the head of a text in which no line breaks a rule keeps the rules on heads
-pub verdict-head : (text : List ℕ) (v : WorkValue) → verdict_of text ≡ Ok v → IsHead v.head
-verdict-head text v ok = lines_head before_all 1 (lines_of text) v sound_none ok

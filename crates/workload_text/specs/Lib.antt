@@ -12,3 +12,4 @@ pub mod Heads
 pub mod State
 pub mod Reader
 pub mod Writing
+pub mod Laws

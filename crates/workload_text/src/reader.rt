@@ -1,7 +1,6 @@
 //! The reader of workload texts.
 
-ghost use Rattle.std.specs.Prelude.{◌≡◌, ◌≤◌, ℕ, true, length, IfOk, IsErrOf, Ok};
-ghost use Rattle.workload_text.specs.Values.{queries_most};
+ghost use Rattle.std.specs.Prelude.{◌≡◌, ℕ, true, IfOk, IsErrOf, Ok};
 ghost use Rattle.workload_text.specs.Sofar.{after_conjunct, value_of};
 ghost use Rattle.workload_text.specs.Rules.{TextLine, follows, sort_of_line, after_end, heads_occur, verdict_of, IsFirstBroken};
 ghost use Rattle.workload_text.specs.State.{sofar_of, IsUsable, IsAccepted};
@@ -48,7 +47,6 @@ pub(crate) fn read_lines<'a>(
     arena: &'a Arena,
 ) -> Result<Reading<'a>, WorkloadError>
     ensures value { IfOk result (λ reading. verdict_of bytes.now ≡ Ok (value_of (sofar_of reading))) }
-    ensures few { IfOk result (λ reading. length reading.queries.items ≤ queries_most) }
     ensures bad { (line rule : ℕ) → IsErrOf result (WorkloadError.BadWorkload line rule) → IsFirstBroken bytes.now line rule }
 {
     let mut reading = Reading::new(alloc, arena)?;

@@ -2,7 +2,9 @@
 
 ghost use Rattle.std.specs.Prelude.{◌≡◌, ◌<◌, ℕ, length, slice_get, Some, Ok, IfOk, IsErrOf};
 ghost use Rattle.query_terms.specs.View.{query_value};
+ghost use Rattle.workload_text.specs.Lines.{IsReading};
 ghost use Rattle.workload_text.specs.Rules.{verdict_of, IsFirstBroken};
+ghost use Rattle.workload_text.specs.Values.{IsWork};
 
 use crate::head::WorkHead;
 use crate::reader::{WorkloadError, read_lines};
@@ -11,7 +13,9 @@ use query_terms::Query;
 use std::alloc::Global;
 use std::marker::Model;
 
-/// A head, and the queries under it, at most 1000.
+/// A head, and the queries under it.
+///
+/// They keep the rules on heads and queries.
 #[derive(Drop)]
 pub struct Workload<'a> {
     head: WorkHead,
@@ -19,28 +23,29 @@ pub struct Workload<'a> {
 }
 
 impl<'a> Model for Workload<'a> {
-    ghost use Rattle.std.specs.Prelude.{◌≤◌, length};
-    ghost use Rattle.workload_text.specs.Values.{WorkValue, queries_most};
+    ghost use Rattle.workload_text.specs.Values.{IsWork, WorkValue};
     ghost use Rattle.workload_text.specs.State.{values_of};
 
     ghost Value = { WorkValue };
 
     ghost view = { λ work. record { head = work.head; queries = values_of work.queries.items } };
 
-    ghost invariant = { λ work. length work.queries.items ≤ queries_most };
+    ghost invariant = { λ work. IsWork record { head = work.head; queries = values_of work.queries.items } };
 }
 
 impl<'a> Workload<'a> {
     /// What the queries are about.
     pub fn head(&self) -> &WorkHead
-        ensures { result.now ≡ self.now.head }
+        ensures head { result.now ≡ self.now.head }
+        ensures work { IsWork self.now }
     {
         &self.head
     }
 
     /// The number of queries.
     pub fn count(&self) -> u32
-        ensures { result ≡ length self.now.queries }
+        ensures count { result ≡ length self.now.queries }
+        ensures work { IsWork self.now }
     {
         self.queries.len() as u32
     }
@@ -48,7 +53,8 @@ impl<'a> Workload<'a> {
     /// The query with a number, counted from 0.
     pub fn query(&self, i: u32) -> &Query<'a>
         requires { i < length self.now.queries }
-        ensures { slice_get self.now.queries i ≡ Some (query_value result.now) }
+        ensures query { slice_get self.now.queries i ≡ Some (query_value result.now) }
+        ensures work { IsWork self.now }
     {
         &self.queries[i as usize]
     }
@@ -64,6 +70,7 @@ pub fn read_workload<'a>(
     arena: &'a Arena,
 ) -> Result<Workload<'a>, WorkloadError>
     ensures value { IfOk result (λ work. verdict_of bytes.now ≡ Ok work) }
+    ensures reading { IfOk result (λ work. IsReading bytes.now work) }
     ensures bad { (line rule : ℕ) → IsErrOf result (WorkloadError.BadWorkload line rule) → IsFirstBroken bytes.now line rule }
 {
     let reading = read_lines(alloc, bytes, arena)?;
