@@ -5,3 +5,5 @@
 
 #[cfg(test)]
 mod sparql_mean_tests;
+#[cfg(test)]
+mod sql_mean_tests;

@@ -119,7 +119,7 @@ module _ (P : ℕ → Type 0) (none : P 0) where
         let found = Contains-from_map (value_of headers q.sources is.product) q.columns n (subst (λ r. Contains r n) is.row_is has) in
         subst P found.2 (value_of-within q.sources is.product found.0 is.picked)
 
-select-long : (headers : List Header) (Has : List ℕ → List ℕ → Type 0) (q : Query) (row : List ℕ) → IsSelectRow headers Has q row → length row ≡ length q.columns
+pub select-long : (headers : List Header) (Has : List ℕ → List ℕ → Type 0) (q : Query) (row : List ℕ) → IsSelectRow headers Has q row → length row ≡ length q.columns
 select-long headers Has q row is = ap length is.row_is ∙ length-map q.columns (value_of headers q.sources is.product)
 
 -- ---- as many rows as there can be

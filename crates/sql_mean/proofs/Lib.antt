@@ -5,3 +5,4 @@ pub mod KnownLemmas
 pub mod LoopLemmas
 pub mod RoundLemmas
 pub mod AllLemmas
+pub mod LastLemmas

@@ -7,11 +7,14 @@
 --   joined kept rows                   the rows that are kept, and each other row once
 --   round_list known t k               the rows of a table after k rounds
 --   IsTableList known t rows           the list of a table's rows
-use Rattle.std.specs.Prelude.{◌≡◌, ◌↔◌, ℕ, zero, suc, Bool, ◌==◌, if◌then◌else◌, bytes_eq, MatchBool, List, [], ◌∷◌, ◌++◌, map, fold, Contains}
+--   AreLevel rows                      all rows have one width, at most four
+use Rattle.std.specs.Prelude.{◌≡◌, ◌↔◌, ◌≤◌, ℕ, zero, suc, Bool, ◌==◌, if◌then◌else◌, bytes_eq, MatchBool, List, [], ◌∷◌, ◌++◌, map, fold, length, Contains}
 use Rattle.std.specs.Borrow.{Bor}
 use Rattle.std.specs.List.{flat_map, list_all, list_any}
+use Rattle.graph_text.specs.Rows.{row_most}
 use Rattle.sql_read.specs.Grammar.{Source, Equation, Query, Table}
 use Rattle.sql_read.specs.Conditions.{Header}
+use Rattle.sql_read.specs.Kept.{AllFit}
 use Rattle.sql_read.specs.View.{col_view, source_view, equation_view}
 use Rattle.sql_read.specs.declared.query.Col.{Col}
 use Rattle.sql_read.specs.declared.query.SqlFrom.{SqlFrom}
@@ -104,3 +107,13 @@ pub record IsStableList (known : List KnownValue) (t : Table) (rows : List (List
 
 abbrev pub IsTableList : List KnownValue → Table → List (List ℕ) → Type 0
 IsTableList known t rows = MatchBool (takes_itself t) (IsStableList known t rows) (rows ≡ joined [] (union_list known t.body))
+
+-- how many numbers the first row has
+abbrev pub width_of : List (List ℕ) → ℕ
+width_of [] = 0
+width_of (row ∷ rows) = length row
+
+-- each row has as many numbers as the first, and no more than a row may have
+pub record AreLevel (rows : List (List ℕ)) : Type 0 where
+  pub few : width_of rows ≤ row_most
+  pub all : AllFit (λ row. length row ≡ width_of rows) rows

@@ -5,7 +5,10 @@
 #![tactic(auto)]
 
 mod known;
+mod queries;
 mod selects;
 mod tables;
 mod tuples;
 mod values;
+
+pub use queries::sql_rows;
