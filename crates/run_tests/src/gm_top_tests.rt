@@ -113,7 +113,7 @@ fn each_outcome_has_its_line_and_leaves_its_files(rt: HostRuntime) -> Result<(),
             0,
             0,
             "gmark: done",
-            "graph.txt: 0 0 0\n",
+            "graph.txt: 0 0 0\nworkload.txt: gmark-workload 1\nlabel p\ntype t fixed\nedge 0 0 0 =\nend\n",
         ),
         (
             "generate 7",
@@ -122,7 +122,7 @@ fn each_outcome_has_its_line_and_leaves_its_files(rt: HostRuntime) -> Result<(),
             0,
             0,
             "gmark: done",
-            "graph.txt: ",
+            "graph.txt: workload.txt: gmark-workload 1\nlabel p\ntype t fixed\nedge 0 0 0 =\nend\n",
         ),
         (
             "generate 7",
@@ -131,7 +131,7 @@ fn each_outcome_has_its_line_and_leaves_its_files(rt: HostRuntime) -> Result<(),
             0,
             0,
             "gmark: done",
-            "graph.txt: 0 0 0\n",
+            "graph.txt: 0 0 0\nworkload.txt: gmark-workload 1\nlabel p\ntype t fixed\nedge 0 0 0 =\nend\n",
         ),
         (
             "generate 7",
@@ -140,7 +140,7 @@ fn each_outcome_has_its_line_and_leaves_its_files(rt: HostRuntime) -> Result<(),
             0,
             0,
             "gmark: done",
-            "graph.txt: 0 0 1\n0 0 1\n1 1 0\n0 0 0\n0 0 0\n",
+            "graph.txt: 0 0 1\n0 0 1\n1 1 0\n0 0 0\n0 0 0\nworkload.txt: gmark-workload 1\nlabel p\nlabel q\ntype a fixed\ntype b fixed\nedge 0 0 1 =\nedge 1 1 0 =\nedge 0 0 0 =\nedge 1 0 1 =\nend\n",
         ),
         ("", LOOP, 0, 0, 2, "gmark: unknown command line", ""),
         ("generate", LOOP, 0, 0, 2, "gmark: unknown command line", ""),
@@ -230,6 +230,33 @@ fn each_outcome_has_its_line_and_leaves_its_files(rt: HostRuntime) -> Result<(),
             "graph.txt: 0 0 0\n",
         ),
         (
+            "generate 7",
+            LOOP,
+            0,
+            4,
+            5,
+            "gmark: writing failed",
+            "graph.txt: 0 0 0\n",
+        ),
+        (
+            "generate 7",
+            LOOP,
+            0,
+            5,
+            5,
+            "gmark: writing failed",
+            "graph.txt: 0 0 0\nworkload.txt: gmar",
+        ),
+        (
+            "generate 7",
+            LOOP,
+            0,
+            6,
+            5,
+            "gmark: writing failed",
+            "graph.txt: 0 0 0\nworkload.txt: gmark-workload 1\nlabel p\ntype t fixed\nedge 0 0 0 =\nend\n",
+        ),
+        (
             "translate",
             KNOWS,
             0,
@@ -296,13 +323,13 @@ fn counted(alloc: Global, line: &str, text: &[u8]) -> Result<(Outcome, u64, u64)
 }
 
 #[test]
-fn a_graph_is_written_in_pieces(rt: HostRuntime) -> Result<(), Fail> {
+fn files_are_written_in_pieces(rt: HostRuntime) -> Result<(), Fail> {
     let alloc = rt.alloc();
     for (line, text, bytes, calls) in [
-        ("generate 7", NO_NODES, 0, 2),
-        ("generate 7", LOOP, 6, 3),
-        ("generate 7", RING, 257_780, 6),
-        ("generate 18446744073709551615", RING, 257_780, 6),
+        ("generate 7", NO_NODES, 55, 5),
+        ("generate 7", LOOP, 61, 6),
+        ("generate 7", RING, 257_835, 9),
+        ("generate 18446744073709551615", RING, 257_835, 9),
     ] {
         assert_eq!(rt;
             counted(alloc, line, text.as_bytes())?,
@@ -313,11 +340,11 @@ fn a_graph_is_written_in_pieces(rt: HostRuntime) -> Result<(), Fail> {
 }
 
 #[test]
-fn a_failed_write_leaves_the_start_of_a_graph(rt: HostRuntime) -> Result<(), Fail> {
+fn a_failed_write_leaves_the_start_of_the_files(rt: HostRuntime) -> Result<(), Fail> {
     let alloc = rt.alloc();
     let whole = left_by(alloc, "generate 7", RING.as_bytes(), 0, 0, 0)?.files;
     // The failing call, the bytes of the failed piece that are kept, and the number of bytes that are left, of which
-    // 11 are the name and what stands before the file's own.
+    // 11 are the graph's name and what stands before its own, and 14 the workload's.
     for (call, keep, bytes) in [
         (2, 0, 11),
         (2, 9, 20),
@@ -325,6 +352,8 @@ fn a_failed_write_leaves_the_start_of_a_graph(rt: HostRuntime) -> Result<(), Fai
         (5, 0, 196_619),
         (5, 100_000, 257_791),
         (6, 0, 257_791),
+        (7, 0, 257_791),
+        (8, 9, 257_814),
     ] {
         let left = left_by(alloc, "generate 7", RING.as_bytes(), 0, call, keep)?;
         assert_eq!(rt;
@@ -334,6 +363,104 @@ fn a_failed_write_leaves_the_start_of_a_graph(rt: HostRuntime) -> Result<(), Fai
                 whole.starts_with(&left.files)
             ),
             (Outcome::WriteFault, bytes, true)
+        );
+    }
+    Ok(())
+}
+
+/// A configuration of nodes of type `a`, each with so many edges to nodes of type `b`, whose number grows, and of one
+/// query of this class.
+fn one_query(
+    alloc: Global,
+    (nodes, degree): (&str, &str),
+    (class, star, length): (&str, &str, &str),
+) -> Result<String, AllocError> {
+    let mut text = String::new(alloc);
+    for part in [
+        r#"{"nodes":100,"types":[{"name":"a","count":"#,
+        nodes,
+        r#"},{"name":"b","share":1000}],"labels":["p"],"constraints":[{"source":"a","label":"p","target":"b","out":{"kind":"uniform","min":"#,
+        degree,
+        r#","max":"#,
+        degree,
+        r#"},"in":{"kind":"uniform","min":1,"max":1}}],"workload":{"queries":1,"shapes":["chain"],"classes":[""#,
+        class,
+        r#""],"star":"#,
+        star,
+        r#","rules":[1,1],"conjuncts":[1,1],"disjuncts":[1,1],"length":"#,
+        length,
+        "}}",
+    ] {
+        text.push_str(part)?;
+    }
+    Ok(text)
+}
+
+#[test]
+fn a_query_is_drawn_or_named(rt: HostRuntime) -> Result<(), Fail> {
+    let alloc = rt.alloc();
+    // The nodes and their degrees, what is asked for, and the status, the line, and the end of what is left.
+    for (nodes, query, status, line, end) in [
+        (
+            ("10", "1"),
+            ("linear", "0", "[1,1]"),
+            0,
+            "gmark: done",
+            "workload.txt: gmark-workload 1\nlabel p\ntype a fixed\ntype b growing\nedge 0 0 1 <\nquery 0 chain linear linear\nrule x0 x1\nx0 0 x1\nend\n",
+        ),
+        (
+            ("10", "1"),
+            ("linear", "0", "[1,1],\"arity\":[0,0]"),
+            0,
+            "gmark: done",
+            "\nquery 0 chain none none\nrule\nx0 0 x1\nend\n",
+        ),
+        (
+            ("10", "1"),
+            ("linear", "0", "[1,1],\"arity\":[4,4]"),
+            0,
+            "gmark: done",
+            "workload.txt: gmark-workload 2\nlabel p\ntype a fixed\ntype b growing\nedge 0 0 1 <\nquery 0 chain linear linear\nrule x0 x1\nx0 0 x1\nend\n",
+        ),
+        (
+            ("10", "1"),
+            ("constant", "0", "[2,2]"),
+            0,
+            "gmark: done",
+            "\nquery 0 chain constant constant\nrule x0 x1\nx0 0.^0 x1\nend\n",
+        ),
+        (
+            ("10", "1"),
+            ("linear", "500", "[2,2]"),
+            7,
+            "gmark: query 0: no chain of class linear",
+            "",
+        ),
+        (
+            ("1000", "5000"),
+            ("linear", "500", "[2,2]"),
+            7,
+            "gmark: query 0: no chain of class linear",
+            "",
+        ),
+        (
+            ("1000", "5000"),
+            ("linear", "0", "[1,1]"),
+            8,
+            "gmark: constraint 0 out: 5000000 stubs",
+            "",
+        ),
+    ] {
+        let text = one_query(alloc, nodes, query)?;
+        let left = left_by(alloc, "generate 7", text.as_bytes(), 0, 0, 0)?;
+        assert_eq!(rt;
+            (
+                left.outcome.status(),
+                left.line.as_str(),
+                left.files.ends_with(end.as_bytes()),
+                left.files.is_empty()
+            ),
+            (status, line, true, end.is_empty())
         );
     }
     Ok(())
