@@ -4,4 +4,6 @@
 #![tactic(auto)]
 
 #[cfg(test)]
+mod sparql_emit_tests;
+#[cfg(test)]
 mod sql_emit_tests;

@@ -31,10 +31,12 @@ SELECT DISTINCT c0.src, c0.trg FROM t1 AS c0
 ";
 
 /// Whether there is an edge.
-const SOME: &str = "WITH RECURSIVE t(a) AS (SELECT e.src FROM edge AS e) SELECT DISTINCT 1 FROM t AS c";
+const SOME: &str =
+    "WITH RECURSIVE t(a) AS (SELECT e.src FROM edge AS e) SELECT DISTINCT 1 FROM t AS c";
 
 /// No text of the subset.
-const TWO: &str = "WITH RECURSIVE t(a) AS (SELECT e.src FROM edge AS e) SELECT DISTINCT 2 FROM t AS c";
+const TWO: &str =
+    "WITH RECURSIVE t(a) AS (SELECT e.src FROM edge AS e) SELECT DISTINCT 2 FROM t AS c";
 
 fn graph_of(alloc: Global, edges: &[(u32, u32, u32)]) -> Result<Graph, AllocError> {
     let mut triples = Vec::new(alloc);
