@@ -399,9 +399,11 @@ fn one_query(
 #[test]
 fn a_query_is_drawn_or_named(rt: HostRuntime) -> Result<(), Fail> {
     let alloc = rt.alloc();
-    // The nodes and their degrees, what is asked for, and the status, the line, and the end of what is left.
-    for (nodes, query, status, line, end) in [
+    // The command line, the nodes and their degrees, what is asked for, and the status, the line, and the end of what
+    // is left.
+    for (words, nodes, query, status, line, end) in [
         (
+            "generate 7",
             ("10", "1"),
             ("linear", "0", "[1,1]"),
             0,
@@ -409,6 +411,7 @@ fn a_query_is_drawn_or_named(rt: HostRuntime) -> Result<(), Fail> {
             "workload.txt: gmark-workload 1\nlabel p\ntype a fixed\ntype b growing\nedge 0 0 1 <\nquery 0 chain linear linear\nrule x0 x1\nx0 0 x1\nend\n",
         ),
         (
+            "generate 7",
             ("10", "1"),
             ("linear", "0", "[1,1],\"arity\":[0,0]"),
             0,
@@ -416,6 +419,7 @@ fn a_query_is_drawn_or_named(rt: HostRuntime) -> Result<(), Fail> {
             "\nquery 0 chain none none\nrule\nx0 0 x1\nend\n",
         ),
         (
+            "generate 7",
             ("10", "1"),
             ("linear", "0", "[1,1],\"arity\":[4,4]"),
             0,
@@ -423,6 +427,23 @@ fn a_query_is_drawn_or_named(rt: HostRuntime) -> Result<(), Fail> {
             "workload.txt: gmark-workload 2\nlabel p\ntype a fixed\ntype b growing\nedge 0 0 1 <\nquery 0 chain linear linear\nrule x0 x1\nx0 0 x1\nend\n",
         ),
         (
+            "generate 2",
+            ("10", "1"),
+            ("linear", "0", "[1,1]"),
+            0,
+            "gmark: done",
+            "\nquery 0 chain linear linear\nrule x0 x1\nx0 ^0 x1\nend\n",
+        ),
+        (
+            "generate 7",
+            ("10", "1"),
+            ("constant", "0", "[32,32]"),
+            0,
+            "gmark: done",
+            "\nquery 0 chain constant constant\nrule x0 x1\nx0 0.^0.0.^0.0.^0.0.^0.0.^0.0.^0.0.^0.0.^0.0.^0.0.^0.0.^0.0.^0.0.^0.0.^0.0.^0.0.^0 x1\nend\n",
+        ),
+        (
+            "generate 7",
             ("10", "1"),
             ("constant", "0", "[2,2]"),
             0,
@@ -430,6 +451,7 @@ fn a_query_is_drawn_or_named(rt: HostRuntime) -> Result<(), Fail> {
             "\nquery 0 chain constant constant\nrule x0 x1\nx0 0.^0 x1\nend\n",
         ),
         (
+            "generate 7",
             ("10", "1"),
             ("linear", "500", "[2,2]"),
             7,
@@ -437,6 +459,7 @@ fn a_query_is_drawn_or_named(rt: HostRuntime) -> Result<(), Fail> {
             "",
         ),
         (
+            "generate 7",
             ("1000", "5000"),
             ("linear", "500", "[2,2]"),
             7,
@@ -444,6 +467,7 @@ fn a_query_is_drawn_or_named(rt: HostRuntime) -> Result<(), Fail> {
             "",
         ),
         (
+            "generate 7",
             ("1000", "5000"),
             ("linear", "0", "[1,1]"),
             8,
@@ -452,7 +476,7 @@ fn a_query_is_drawn_or_named(rt: HostRuntime) -> Result<(), Fail> {
         ),
     ] {
         let text = one_query(alloc, nodes, query)?;
-        let left = left_by(alloc, "generate 7", text.as_bytes(), 0, 0, 0)?;
+        let left = left_by(alloc, words, text.as_bytes(), 0, 0, 0)?;
         assert_eq!(rt;
             (
                 left.outcome.status(),
@@ -461,6 +485,51 @@ fn a_query_is_drawn_or_named(rt: HostRuntime) -> Result<(), Fail> {
                 left.files.is_empty()
             ),
             (status, line, true, end.is_empty())
+        );
+    }
+    Ok(())
+}
+
+/// A query of class linear, of words of two symbols along the edges of one label, which lead to a growing type from a
+/// fixed one and from itself.
+const TWO_EDGES: &str =
+    r#"{"nodes":100,"types":[{"name":"a","count":10},{"name":"b","share":1000}],"labels":["p"],"constraints":[{"source":"a","label":"p","target":"b","out":{"kind":"uniform","min":1,"max":1},"in":{"kind":"uniform","min":1,"max":1}},{"source":"b","label":"p","target":"b","out":{"kind":"uniform","min":1,"max":1},"in":{"kind":"uniform","min":1,"max":1}}],"workload":{"queries":1,"shapes":["chain"],"classes":["linear"],"star":0,"rules":[1,1],"conjuncts":[1,1],"disjuncts":[1,1],"length":[2,2]}}"#;
+
+/// A starred query of class quadratic over equal edges, of which each value is linear.
+const EQUAL_EDGES: &str =
+    r#"{"nodes":100,"types":[{"name":"b","share":1000}],"labels":["p"],"constraints":[{"source":"b","label":"p","target":"b","out":{"kind":"uniform","min":1,"max":1},"in":{"kind":"uniform","min":1,"max":1}}],"workload":{"queries":1,"shapes":["chain"],"classes":["quadratic"],"star":1000,"rules":[1,1],"conjuncts":[1,8],"disjuncts":[1,1],"length":[1,16]}}"#;
+
+#[test]
+fn the_wide_class_is_that_of_the_labels(rt: HostRuntime) -> Result<(), Fail> {
+    let alloc = rt.alloc();
+    for (words, text, line, end) in [
+        (
+            "generate 3",
+            TWO_EDGES,
+            "gmark: done",
+            "\nquery 0 chain linear linear\nrule x0 x1\nx0 0.1 x1\nend\n",
+        ),
+        (
+            "generate 19",
+            TWO_EDGES,
+            "gmark: done",
+            "\nquery 0 chain linear quadratic\nrule x0 x1\nx0 ^1.1 x1\nend\n",
+        ),
+        (
+            "generate 7",
+            EQUAL_EDGES,
+            "gmark: query 0: no chain of class quadratic",
+            "",
+        ),
+    ] {
+        let left = left_by(alloc, words, text.as_bytes(), 0, 0, 0)?;
+        assert_eq!(rt;
+            (
+                left.line.as_str(),
+                left.files.ends_with(end.as_bytes()),
+                left.files.is_empty()
+            ),
+            (line, true, end.is_empty())
         );
     }
     Ok(())
