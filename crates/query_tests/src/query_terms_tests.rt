@@ -23,12 +23,7 @@ fn push_one(out: &mut Vec<u8>, part: TermId, mark: u8) -> Result<(), AllocError>
 }
 
 /// What is made of two parts: their numbers with a mark between them.
-fn push_two(
-    out: &mut Vec<u8>,
-    first: TermId,
-    mark: u8,
-    second: TermId,
-) -> Result<(), AllocError> {
+fn push_two(out: &mut Vec<u8>, first: TermId, mark: u8, second: TermId) -> Result<(), AllocError> {
     push_one(out, first, mark)?;
     out.push(digit(second.number()))?;
     Ok(())

@@ -18,11 +18,7 @@ fn graph_of(alloc: Global, triples: &[(u32, u32, u32)]) -> Result<Graph, AllocEr
 }
 
 /// The numbers of all rows, each row behind a bar; an E for a text that has no reading.
-fn rows_of(
-    alloc: Global,
-    query: &str,
-    triples: &[(u32, u32, u32)],
-) -> Result<Vec<u8>, AllocError> {
+fn rows_of(alloc: Global, query: &str, triples: &[(u32, u32, u32)]) -> Result<Vec<u8>, AllocError> {
     let arena = Arena::new(alloc);
     let mut out = Vec::new(alloc);
     let Some(work) = read(alloc, &arena, query)? else {
@@ -62,7 +58,10 @@ fn conjuncts(rt: HostRuntime) -> Result<(), Fail> {
             "|00|02|11|22|33|73|77",
         ),
     ] {
-        assert_eq!(rt; rows_of(alloc, query, graph)?, rows.as_bytes().to_vec(alloc)?);
+        assert_eq!(rt;
+            rows_of(alloc, query, graph)?,
+            rows.as_bytes().to_vec(alloc)?
+        );
     }
     Ok(())
 }
@@ -96,7 +95,10 @@ fn a_row_has_a_number_for_each_head(rt: HostRuntime) -> Result<(), Fail> {
             "|3210|4210",
         ),
     ] {
-        assert_eq!(rt; rows_of(alloc, query, graph)?, rows.as_bytes().to_vec(alloc)?);
+        assert_eq!(rt;
+            rows_of(alloc, query, graph)?,
+            rows.as_bytes().to_vec(alloc)?
+        );
     }
     Ok(())
 }
@@ -117,7 +119,10 @@ fn rules_and_their_conjuncts(rt: HostRuntime) -> Result<(), Fail> {
             "|02|33",
         ),
     ] {
-        assert_eq!(rt; rows_of(alloc, query, graph)?, rows.as_bytes().to_vec(alloc)?);
+        assert_eq!(rt;
+            rows_of(alloc, query, graph)?,
+            rows.as_bytes().to_vec(alloc)?
+        );
     }
     Ok(())
 }
