@@ -6,7 +6,7 @@ ghost use Rattle.sparql_read.specs.Text.{are_different};
 ghost use Rattle.sparql_emit.specs.Laws.{has_label};
 
 use gm_text::{Arena, Name, Names};
-use query_terms::{Term, TermStore};
+use query_terms::{Query, Term, TermStore};
 use sparql_emit::sparql_text;
 use std::alloc::{AllocError, Global};
 use std::test::Fail;
@@ -53,6 +53,16 @@ fn have_labels(terms: &TermStore<'_>, count: usize) -> bool
     true
 }
 
+/// The text of a query, or nothing where a step has none of these labels.
+fn text_with(alloc: Global, query: &Query<'_>, names: &Names) -> Result<Vec<u8>, AllocError>
+    requires { are_different names.now ≡ true }
+{
+    if !have_labels(&query.terms, names.len()) {
+        return Ok(Vec::new(alloc));
+    }
+    sparql_text(alloc, query, names)
+}
+
 /// The text of the first query of a workload, or nothing where there is none.
 fn text_of(alloc: Global, query: &str) -> Result<Vec<u8>, AllocError> {
     let mut text = HEAD.as_bytes().to_vec(alloc)?;
@@ -65,11 +75,7 @@ fn text_of(alloc: Global, query: &str) -> Result<Vec<u8>, AllocError> {
     if work.count() == 0 {
         return Ok(Vec::new(alloc));
     }
-    let query = work.query(0);
-    if !have_labels(&query.terms, names.len()) {
-        return Ok(Vec::new(alloc));
-    }
-    sparql_text(alloc, query, &names)
+    text_with(alloc, work.query(0), &names)
 }
 
 #[test]
