@@ -23,16 +23,20 @@ use Rattle.query_draw.specs.Query.{drawn_shape, drawn_class, has_query}
 use Rattle.query_draw.specs.Missing.{IsFirst}
 use Rattle.edge_match.specs.declared.errors.TooManyStubs.{TooManyStubs}
 use Rattle.edge_match.specs.Limit.{IsWithinLimit, IsFirstOver}
-use Rattle.workload_text.specs.Plain.{IsPlain}
+use Rattle.workload_text.specs.Values.{WorkValue}
+use Rattle.workload_text.specs.Rules.{Verdict, verdict_of, IsFirstBroken}
+use Rattle.workload_text.specs.declared.reader.WorkloadError.{WorkloadError}
+use Rattle.workload_text.specs.declared.reader.WorkloadError.TheVariants as workload
+use Rattle.workload_text.proofs.ReadingLemmas.{reading}
 use Rattle.gm_top.specs.declared.commands.Command.{Command}
 use Rattle.gm_top.specs.declared.commands.Command.TheVariants.{Translate, Generate}
 use Rattle.gm_top.specs.declared.outcomes.Outcome.{Outcome}
 use Rattle.gm_top.specs.declared.outcomes.Outcome.TheVariants as outcome
 use Rattle.gm_top.specs.declared.work.Work.{Work}
-use Rattle.gm_top.specs.declared.work.Work.TheVariants.{Query, Files}
+use Rattle.gm_top.specs.declared.work.Work.TheVariants.{Queries, Files}
 use Rattle.gm_top.specs.Command.{input_of}
-use Rattle.gm_top.specs.Outcome.{config_outcome, broken_outcome, missing_outcome, stubs_outcome, is_decision, is_of_deciding}
-use Rattle.gm_top.specs.Decision.{first_refusal, config_refusal, query_refusal, side_refusal, files_decision, IsRefusalOf, IsDecision, Decides}
+use Rattle.gm_top.specs.Outcome.{config_outcome, workload_outcome, broken_outcome, missing_outcome, stubs_outcome, is_decision, is_of_deciding}
+use Rattle.gm_top.specs.Decision.{first_refusal, config_refusal, query_refusal, side_refusal, files_decision, text_decision, IsRefusalOf, IsDecision, Decides}
 use Rattle.gm_top.specs.Generation.{GenerationValue, CanDraw}
 use Rattle.gm_top.specs.Outputs.{IsAccepted}
 use Rattle.gm_top.specs.Run.{IsReadWhole}
@@ -264,20 +268,35 @@ pub stops-refusal : (g : GenerationValue) (refusal : Outcome) → IsRefusalOf g 
 stops-refusal g refusal (inl (missing, first, is)) = rw is refl
 stops-refusal g refusal (inr (over, can, first, is)) = rw is refl
 
-pub IsDecision-plain : (bytes label : List ℕ) → IsPlain bytes label → IsDecision Translate bytes (Ok (Query label))
-IsDecision-plain bytes label plain = (Some label, plain, refl)
+-- a workload text that was read
+pub IsDecision-text : (bytes : List ℕ) (v : WorkValue) → verdict_of bytes ≡ Ok v → IsDecision Translate bytes (Ok (Queries v))
+IsDecision-text bytes v is = sym (ap text_decision is)
 
-pub IsDecision-not_plain : (bytes : List ℕ) → ((label : List ℕ) → IsPlain bytes label → ⊥) → IsDecision Translate bytes (Err outcome.NotBuilt)
-IsDecision-not_plain bytes none = (None, none, refl)
+-- bytes of which no workload was read
+pub IsDecision-not_text : (result : Result Work Outcome) (bytes : List ℕ) (read : Result WorkValue WorkloadError) (error : WorkloadError)
+    → read ≡ Err error → IsErrAnd result (λ answer. answer ≡ workload_outcome error)
+    → ((line rule : ℕ) → read ≡ Err (workload.BadWorkload line rule) → IsFirstBroken bytes line rule)
+    → result ≢ Err outcome.NoMemory → IsDecision Translate bytes result
+IsDecision-not_text (Ok work) bytes read error failed is bad other = absurd is
+IsDecision-not_text (Err answer) bytes read workload.NoMemory failed is bad other = absurd (other (ap (λ a. Err a) is))
+IsDecision-not_text (Err answer) bytes read (workload.BadWorkload line rule) failed is bad other =
+    ap (λ a. Err a) is ∙ sym (ap text_decision (bad line rule failed))
+
+-- the workload of a text keeps the rules
+text-accepted : (bytes : List ℕ) (verdict : Verdict) (work : Work) → verdict_of bytes ≡ verdict → Ok work ≡ text_decision verdict → IsAccepted work
+text-accepted bytes (Ok v) work is same = subst IsAccepted (work-of work v same) (reading bytes v is).0
+  where
+    work-of : (work : Work) (v : WorkValue) → ◌≡◌ {A = Result Work Outcome} (Ok work) (Ok (Queries v)) → Queries v ≡ work
+    work-of work v same = cc
+text-accepted bytes (Err (line, rule)) work is same = absurd (not_ok work line rule same)
+  where
+    not_ok : (work : Work) (line rule : ℕ) → ◌≡◌ {A = Result Work Outcome} (Ok work) (Err (outcome.BadWorkload line rule)) → ⊥
+    not_ok work line rule same = cc
 
 -- a decided work is accepted
 pub IsAccepted-IsDecision : (command : Command) (bytes : List ℕ) (work : Work) → IsDecision command bytes (Ok work) → IsAccepted work
 unfolding files_decision
-IsAccepted-IsDecision Translate bytes work (None, none, is) = absurd (cc)
-IsAccepted-IsDecision Translate bytes work (Some label, plain, is) = subst IsAccepted (query_of work label is) plain.1
-  where
-    query_of : (work : Work) (label : List ℕ) → ◌≡◌ {A = Result Work Outcome} (Ok work) (Ok (Query label)) → Query label ≡ work
-    query_of work label is = cc
+IsAccepted-IsDecision Translate bytes work is = text-accepted bytes (verdict_of bytes) work refl is
 IsAccepted-IsDecision (Generate seed) bytes work (None, none, is) = absurd (not_ok work is)
   where
     not_ok : (work : Work) → Ok work ≡ files_decision seed None → ⊥

@@ -5,7 +5,7 @@ use Rattle.std.proofs.lemmas.List.Elements.{All-append}
 use Rattle.gm_io.specs.Count.{raised}
 use Rattle.gm_io.specs.FileList.{FileList, Gained}
 use Rattle.gm_io.specs.Folder.{KeepsFiles}
-use Rattle.gm_files.specs.Calls.{pieces_of, file_calls}
+use Rattle.gm_files.specs.Calls.{file_calls}
 use Rattle.gm_files.proofs.Gains.{GainedPart-none, GainedPart-all}
 use Rattle.graph_text.specs.declared.graphs.Triple.{Triple}
 use Rattle.graph_text.specs.EdgesText.{IsInRange, IsReading, edges_text}

@@ -1,6 +1,6 @@
 -- What is drawn keeps the rules of workload texts.
-use Rattle.std.proofs.Common.{◌≡◌, ◌≢◌, ◌∙◌, ℕ, zero, suc, ◌+◌, ◌-◌, ◌<◌, ◌≤◌, ◌^◌, min, List, [], ◌∷◌, length, map, take, slice_index_or, get_or, refl, ap, sym, subst}
-use Rattle.std.proofs.Common.{Bool, true, false, not, ◌==◌, ◌&&◌, nat_lt, nat_le, if◌then◌else◌, Option, Some, None, is_some, IsTrue, All, fold, arith}
+use Rattle.std.proofs.Common.{◌≡◌, ◌≢◌, ◌∙◌, ℕ, zero, suc, ◌+◌, ◌<◌, ◌≤◌, min, List, [], ◌∷◌, length, map, get_or, refl, ap, sym, subst}
+use Rattle.std.proofs.Common.{Bool, true, false, ◌==◌, ◌&&◌, nat_lt, nat_le, if◌then◌else◌, Some, None, is_some, All, fold, arith}
 use Rattle.std.specs.List.{list_all, range_with_len}
 use Rattle.std.proofs.lemmas.Bool.Decides.{nat_tests}
 use Rattle.std.proofs.lemmas.List.{length-map}
@@ -13,25 +13,24 @@ use Rattle.sel_algebra.specs.declared.vocabulary.Shape.{Shape}
 use Rattle.sel_algebra.specs.declared.vocabulary.Shape.TheVariants.{Chain, Star, Cycle, StarChain}
 use Rattle.skeletons.specs.Skeleton.{HasSkeleton, ends_of, variables_of}
 use Rattle.gm_config.specs.Config.{ConfigValue, IsConfig}
-use Rattle.gm_config.specs.WorkloadRules.{pair}
 use Rattle.gm_config.specs.declared.workload_rules.Range.{Range}
 use Rattle.schema_graph.specs.declared.edge.SchemaEdge.{SchemaEdge}
-use Rattle.schema_graph.specs.Edge.{start_of, end_of}
+use Rattle.schema_graph.specs.Edge.{end_of}
 use Rattle.schema_graph.specs.Schema.{SchemaValue}
 use Rattle.schema_graph.specs.Configured.{schema_of}
 use Rattle.candidates.proofs.PickLemmas.{pick_of-below}
 use Rattle.seeded_draw.specs.Draw.{pick_of}
-use Rattle.query_terms.specs.Values.{ConjunctValue, RuleValue, has_edge, is_word, is_conjunct, is_rule, has_heads, have_heads, arity_of, has_class, occurs, differ, arity_built}
-use Rattle.query_draw.specs.Values.{Leads, LeadsWord, LeadsConjunct}
+use Rattle.query_terms.specs.Values.{ConjunctValue, RuleValue, has_edge, is_word, is_conjunct, have_heads, arity_of, has_class}
+use Rattle.query_draw.specs.Values.{Leads, LeadsWord}
 use Rattle.query_draw.specs.Laws.{ends_in}
 use Rattle.query_draw.specs.Drawn.{words_for, drawn_from}
 use Rattle.query_draw.specs.Query.{reach_of, drawn_shape, drawn_class, rule_count, rule_size, wanted_arity, drawn_arity, heads_of, drawn_rule, drawn_rules, has_query, query_of}
 use Rattle.query_draw.proofs.LegLemmas.{words_for-words}
 use Rattle.query_draw.proofs.LedLemmas.{IsLed, drawn_rule_led}
-use Rattle.query_draw.proofs.HeadLemmas.{passes_at, AreHeads, heads_occur}
+use Rattle.query_draw.proofs.HeadLemmas.{passes_at, heads_occur}
 use Rattle.query_draw.proofs.QueryLemmas.{arity_wanted, rule_is_sized, has_class_is, few_rules, arity_few, rules_some}
 use Rattle.query_draw.proofs.RuleLemmas.{rule_is_begun, drawn_rules_have_skeletons, wide_is_there}
-use Rattle.workload_text.specs.Values.{word_start, word_end, end_from, is_chain_from, is_chain, has_ends, have_same_ends, comes_back, may_be_starred, is_short_word, is_short_union}
+use Rattle.workload_text.specs.Values.{word_start, word_end, end_from, is_chain_from, is_chain, has_ends, have_same_ends, comes_back, may_be_starred, is_short_word}
 use Rattle.workload_text.specs.Values.{IsConjunct, IsRule, IsQuery, IsWork}
 use Rattle.workload_text.specs.Head.{head_of}
 use Rattle.workload_text.proofs.HeadLemmas.{IsHead-head_of}

@@ -1,8 +1,9 @@
 -- Every input has one decision, and every work has one list of files.
-use Rattle.std.proofs.Common.{◌≡◌, ◌∙◌, ◌⊎◌, ℕ, List, [], ◌∷◌, Option, Some, None, Result, Ok, Err, refl, ap, sym, subst, inl, inr, true, false}
+use Rattle.std.proofs.Common.{◌≡◌, ◌∙◌, ◌⊎◌, ℕ, ◌+◌, All, List, [], ◌∷◌, Option, Some, None, Result, Ok, Err, refl, ap, sym, subst, inl, inr, true, false}
 use Rattle.std.specs.List.{AllByRecursion}
 use Rattle.std.specs.Str.{is_utf8}
 use Rattle.std.proofs.lemmas.Bool.{cases_Bool}
+use Rattle.std.proofs.lemmas.List.Elements.{All-head, All-tail}
 use Rattle.std.proofs.lemmas.Str.{IsUtf8-from_is_utf8, is_utf8-from_IsUtf8}
 use Rattle.serde_json.specs.Data.{Data}
 use Rattle.serde_json.specs.Read.{read}
@@ -12,27 +13,27 @@ use Rattle.gm_config.specs.Rule.{first_broken}
 use Rattle.gm_config.specs.Rules.{rules}
 use Rattle.graph_text.specs.EdgesText.{edges_text}
 use Rattle.edge_match.specs.Limit.{IsWithinLimit}
-use Rattle.gm_text.specs.Name.{IsName}
 use Rattle.gm_top.specs.Generation.{CanDraw, IsAcceptedFor}
 use Rattle.edge_match.proofs.AllEdgesLemmas.{AreAllEdges-one, IsConforming-AreAllEdges}
-use Rattle.sparql_read.specs.Plain.{plain_sparql_text}
 use Rattle.gm_top.specs.declared.commands.Command.{Command}
 use Rattle.gm_top.specs.declared.commands.Command.TheVariants.{Translate, Generate}
 use Rattle.gm_top.specs.declared.outcomes.Outcome.{Outcome}
 use Rattle.gm_top.specs.declared.work.Work.{Work}
-use Rattle.gm_top.specs.declared.work.Work.TheVariants.{Query, Files}
-use Rattle.gm_top.specs.Decision.{IsValueOf, query_decision, files_decision, IsDecision}
-use Rattle.gm_top.specs.Outputs.{Output, graph, workload, query, outputs_of, name_of, IsTextOf, Means, IsAccepted, AreFilesOf, AreMeant}
+use Rattle.gm_top.specs.declared.work.Work.TheVariants.{Queries, Files}
+use Rattle.gm_top.specs.Decision.{IsValueOf, text_decision, files_decision, IsDecision}
+use Rattle.gm_top.specs.Outputs.{Output, graph, workload, query_file, query_outputs, outputs_of, name_of, IsTextOf, Means, IsAccepted, AreFilesOf, AreMeant}
 use Rattle.workload_text.specs.Lines.{work_text}
+use Rattle.workload_text.specs.Rules.{verdict_of}
+use Rattle.workload_text.specs.Values.{HeadValue, IsHead, IsQuery}
+use Rattle.query_terms.specs.Values.{QueryValue}
+use Rattle.query_texts.specs.Texts.{text_of, MeansQuery}
+use Rattle.query_texts.proofs.MeaningLemmas.{texts_mean_their_query}
 use Rattle.gm_top.specs.Workload.{workload_of}
-use Rattle.gm_top.specs.Rows.{MeansQuery}
 use Rattle.gm_top.specs.Laws.{Refuses, DefinesFiles}
 use Rattle.gm_top.proofs.DecisionLemmas.{decides-files, IsAccepted-IsDecision}
-use Rattle.gm_top.proofs.PlainLemmas.{IsLabelOf-some, IsLabelOf-one}
 use Rattle.gm_top.proofs.GraphLemmas.{graph_text-some}
 use Rattle.gm_top.proofs.WorkloadLemmas.{workload-classes}
 use Rattle.gm_top.proofs.KeptLemmas.{workload-kept}
-use Rattle.gm_top.proofs.RowLemmas.{MeansQuery-plain}
 
 -- bytes have a value or none, and one alone
 value_some : (bytes : List ℕ) (value : Option Data) → read bytes ≡ value → (value : Option Data) × IsValueOf bytes value
@@ -56,42 +57,54 @@ value_one bytes (Some d) None p q = absurd (q d p)
 value_one bytes (Some d) (Some e) p q = sym p.value ∙ q.value
 
 IsDecision-some : (command : Command) (bytes : List ℕ) → (decision : Result Work Outcome) × IsDecision command bytes decision
-IsDecision-some Translate bytes = let label = IsLabelOf-some bytes in (query_decision label.0, (label.0, label.1, refl))
+IsDecision-some Translate bytes = (text_decision (verdict_of bytes), refl)
 IsDecision-some (Generate seed) bytes = let value = value_some bytes (read bytes) refl in (files_decision seed value.0, (value.0, value.1, refl))
 
 -- what is decided of bytes is one
 pub IsDecision-one : (command : Command) (bytes : List ℕ) (a b : Result Work Outcome) → IsDecision command bytes a → IsDecision command bytes b → a ≡ b
-IsDecision-one Translate bytes a b (label, is_label, p) (other, is_other, q) = p ∙ ap query_decision (IsLabelOf-one bytes label other is_label is_other) ∙ sym q
+IsDecision-one Translate bytes a b p q = p ∙ sym q
 IsDecision-one (Generate seed) bytes a b (value, is_value, p) (other, is_other, q) = p ∙ ap (files_decision seed) (value_one bytes value other is_value is_other) ∙ sym q
 
 -- ---- files, one after another
 
 -- an output of an accepted work
 abbrev pub IsAcceptedOutput : Output → Type 0
-IsAcceptedOutput (query label) = IsName label
+IsAcceptedOutput (query_file kind names number q) = (h : HeadValue) × IsHead h × IsQuery h q × (h.labels ≡ names)
 IsAcceptedOutput (graph config seed) = IsAcceptedFor config seed
 IsAcceptedOutput (workload config seed) = IsAcceptedFor config seed
 
+queries-accepted : (h : HeadValue) → IsHead h → (number : ℕ) (queries : List QueryValue) → All (IsQuery h) queries
+    → AllByRecursion IsAcceptedOutput (query_outputs h.labels number queries)
+queries-accepted h head number [] all = tt
+queries-accepted h head number (q ∷ queries) all =
+    let is = All-head (IsQuery h) q queries all in
+    ((h, head, is, refl), ((h, head, is, refl), queries-accepted h head (number + 1) queries (All-tail (IsQuery h) q queries all)))
+
 pub outputs-accepted : (work : Work) → IsAccepted work → AllByRecursion IsAcceptedOutput (outputs_of work)
-outputs-accepted (Query label) accepted = (accepted, tt)
-outputs-accepted (Files g) accepted = (accepted, (accepted, tt))
+outputs-accepted (Queries v) accepted = queries-accepted v.head accepted.head 0 v.queries accepted.each
+outputs-accepted (Files g) accepted =
+    let v = workload_of g.config g.seed in
+    let kept = workload-kept g.config g.seed accepted.rules accepted.queries in
+    (accepted, (accepted, queries-accepted v.head kept.head 0 v.queries kept.each))
 
 -- it has a text
 pub IsTextOf-some : (output : Output) → IsAcceptedOutput output → (text : List ℕ) × IsTextOf output text
-IsTextOf-some (query label) accepted = (plain_sparql_text label, refl)
+IsTextOf-some (query_file kind names number q) accepted = (text_of kind names q, refl)
 IsTextOf-some (graph config seed) accepted = graph_text-some config seed accepted.rules accepted.sides
 IsTextOf-some (workload config seed) accepted = (work_text (workload_of config seed), refl)
 
 -- it has one text
 IsTextOf-one : (output : Output) (text other : List ℕ) → IsTextOf output text → IsTextOf output other → text ≡ other
-IsTextOf-one (query label) text other p q = p ∙ sym q
+IsTextOf-one (query_file kind names number value) text other p q = p ∙ sym q
 IsTextOf-one (workload config seed) text other p q = p ∙ sym q
 IsTextOf-one (graph config seed) text other (edges, all, reading) (others, all_others, read_so) =
     sym reading.1 ∙ ap edges_text (AreAllEdges-one config seed edges others all all_others) ∙ read_so.1
 
 -- the text means what it is to mean
 Means-IsTextOf : (output : Output) (text : List ℕ) → IsAcceptedOutput output → IsTextOf output text → Means output text
-Means-IsTextOf (query label) text accepted is = subst (MeansQuery label) (sym is) (MeansQuery-plain label accepted)
+Means-IsTextOf (query_file kind names number q) text (h, head, keeps, same) is =
+    subst (MeansQuery kind names q) (sym is)
+    (subst (λ (labels : List (List ℕ)). MeansQuery kind labels q (text_of kind labels q)) same (texts_mean_their_query h q head keeps kind))
 Means-IsTextOf (workload config seed) text accepted is =
     (workload_of config seed, (workload-kept config seed accepted.rules accepted.queries, sym is), refl, workload-classes config seed accepted.rules accepted.queries)
 Means-IsTextOf (graph config seed) text accepted (edges, all, reading) = (edges, reading, IsConforming-AreAllEdges config seed edges accepted.rules all)

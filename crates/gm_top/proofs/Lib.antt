@@ -2,11 +2,10 @@ pub mod CommandLemmas
 pub mod DecisionLemmas
 pub mod PutLemmas
 pub mod OutputLemmas
+pub mod QueryLemmas
 pub mod GraphLemmas
 pub mod WorkloadLemmas
 pub mod KeptLemmas
-pub mod RowLemmas
-pub mod PlainLemmas
 pub mod LawLemmas
 pub mod RunLemmas
 pub mod WordLemmas

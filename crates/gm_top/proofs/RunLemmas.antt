@@ -5,7 +5,7 @@ use Rattle.gm_io.specs.FileList.{FileList, Told, Gained}
 use Rattle.gm_top.specs.declared.commands.Command.{Command}
 use Rattle.gm_top.specs.declared.commands.Command.TheVariants.{Translate, Generate}
 use Rattle.gm_top.specs.declared.outcomes.Outcome.{Outcome}
-use Rattle.gm_top.specs.declared.outcomes.Outcome.TheVariants.{Done, Usage, ReadFault, InputTooLong, Config, NotBuilt, NoSuchQuery, TooManyStubs, WriteFault, NoMemory}
+use Rattle.gm_top.specs.declared.outcomes.Outcome.TheVariants.{Done, Usage, ReadFault, InputTooLong, Config, BadWorkload, NoSuchQuery, TooManyStubs, WriteFault, NoMemory}
 use Rattle.gm_top.specs.declared.work.Work.{Work}
 use Rattle.gm_top.specs.Command.{IsCommand, input_of}
 use Rattle.gm_top.specs.Outcome.{is_of_bytes, is_of_input}
@@ -80,7 +80,7 @@ refused_answer command xs NoMemory is memory fault long decided short = absurd (
 refused_answer command xs ReadFault is memory fault long decided short = absurd (fault refl)
 refused_answer command xs InputTooLong is memory fault long decided short = too_long command xs (long refl)
 refused_answer command xs (Config reason) is memory fault long decided short = decided_answer command xs (Err (Config reason)) (short refl) (decided refl)
-refused_answer command xs NotBuilt is memory fault long decided short = decided_answer command xs (Err NotBuilt) (short refl) (decided refl)
+refused_answer command xs (BadWorkload line rule) is memory fault long decided short = decided_answer command xs (Err (BadWorkload line rule)) (short refl) (decided refl)
 refused_answer command xs (NoSuchQuery n shape class) is memory fault long decided short =
     decided_answer command xs (Err (NoSuchQuery n shape class)) (short refl) (decided refl)
 refused_answer command xs (TooManyStubs c side total) is memory fault long decided short =

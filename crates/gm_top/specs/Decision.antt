@@ -1,8 +1,7 @@
 -- What a command decides of its input: a refusal, or the work that is to be done.
---   IsLabelOf bytes label           the label of a text of the plain form, and none of any other text
 --   IsValueOf bytes value           the value of bytes that are JSON, and none of any other bytes
 --   first_refusal refusals work     the first of some refusals, or else the work
---   query_decision label            what is decided of a text that reads so
+--   text_decision verdict           what is decided of a workload text with this verdict
 --   config_refusal d                how a value is refused that is no configuration
 --   query_refusal config seed n     how a query is refused that can't be drawn
 --   side_refusal config seed c      how a constraint is refused that has too many stubs
@@ -29,20 +28,16 @@ use Rattle.query_draw.specs.declared.missing.NoSuchQuery.{NoSuchQuery}
 use Rattle.query_draw.specs.Missing.{IsFirst}
 use Rattle.edge_match.specs.declared.errors.TooManyStubs.{TooManyStubs}
 use Rattle.edge_match.specs.Limit.{first_side_over, IsWithinLimit, IsFirstOver}
-use Rattle.workload_text.specs.Plain.{IsPlain}
+use Rattle.workload_text.specs.Rules.{Verdict, verdict_of}
 use Rattle.gm_top.specs.declared.commands.Command.{Command}
 use Rattle.gm_top.specs.declared.commands.Command.TheVariants.{Translate, Generate}
 use Rattle.gm_top.specs.declared.outcomes.Outcome.{Outcome}
 use Rattle.gm_top.specs.declared.outcomes.Outcome.TheVariants as outcome
 use Rattle.gm_top.specs.declared.work.Work.{Work}
-use Rattle.gm_top.specs.declared.work.Work.TheVariants.{Query, Files}
+use Rattle.gm_top.specs.declared.work.Work.TheVariants.{Queries, Files}
 use Rattle.gm_top.specs.Command.{input_of}
 use Rattle.gm_top.specs.Generation.{GenerationValue, CanDraw}
 use Rattle.gm_top.specs.Outcome.{broken_outcome, missing_outcome, stubs_outcome}
-
--- the label of a text of the plain form, and none of any other text
-abbrev pub IsLabelOf : List ℕ → Option (List ℕ) → Type 0
-IsLabelOf bytes label = MatchOption label ((name : List ℕ) → ¬ IsPlain bytes name) (λ name. IsPlain bytes name)
 
 -- the value of bytes that are JSON, and none of any other bytes
 abbrev pub IsValueOf : List ℕ → Option Data → Type 0
@@ -54,10 +49,11 @@ first_refusal [] work = Ok work
 first_refusal (None ∷ refusals) work = first_refusal refusals work
 first_refusal (Some refusal ∷ refusals) work = Err refusal
 
--- a text of the plain form asks for the text of its query
-abbrev pub query_decision : Option (List ℕ) → Result Work Outcome
-query_decision None = Err outcome.NotBuilt
-query_decision (Some label) = Ok (Query label)
+-- a workload text asks for the texts of its queries; any other is refused with its first line that breaks a rule, and
+-- the least rule that this line breaks
+abbrev pub text_decision : Verdict → Result Work Outcome
+text_decision (Ok v) = Ok (Queries v)
+text_decision (Err (line, rule)) = Err (outcome.BadWorkload line rule)
 
 -- a value that is no configuration is refused with the first rule that it breaks
 abbrev pub config_refusal : Data → Option Outcome
@@ -96,8 +92,7 @@ files_decision seed (Some d) = first_refusal (refusals_of d seed) (Files (record
 
 -- what a command decides of the bytes that it is given
 abbrev pub IsDecision : Command → List ℕ → Result Work Outcome → Type 0
-IsDecision Translate bytes decision =
-    (label : Option (List ℕ)) × IsLabelOf bytes label × (decision ≡ query_decision label)
+IsDecision Translate bytes decision = decision ≡ text_decision (verdict_of bytes)
 IsDecision (Generate seed) bytes decision =
     (value : Option Data) × IsValueOf bytes value × (decision ≡ files_decision seed value)
 

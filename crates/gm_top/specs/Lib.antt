@@ -1,7 +1,6 @@
 pub mod Command
 pub mod Outcome
 pub mod Decision
-pub mod Rows
 pub mod Generation
 pub mod Workload
 pub mod Outputs

@@ -1,6 +1,6 @@
 -- The exit status and the printed line of each outcome.
 --   status_of outcome, line_of outcome     the two
---   broken_line, missing_line, stubs_line  the lines that hold numbers
+--   broken_line, bad_line, missing_line, stubs_line   the lines that hold numbers
 --   is_after_reading outcome               it comes only after the whole input was read
 --   is_refusal outcome                     it is decided before a file is made
 --   is_of_bytes outcome                    the bytes of the input decide it
@@ -24,6 +24,8 @@ use Rattle.gm_config.specs.declared.errors.ConfigError.TheVariants as config
 use Rattle.query_draw.specs.declared.missing.NoSuchQuery.{NoSuchQuery}
 use Rattle.query_draw.specs.declared.errors.DrawError.{DrawError}
 use Rattle.query_draw.specs.declared.errors.DrawError.TheVariants as draw
+use Rattle.workload_text.specs.declared.reader.WorkloadError.{WorkloadError}
+use Rattle.workload_text.specs.declared.reader.WorkloadError.TheVariants as workload
 use Rattle.edge_match.specs.declared.config_sides.Side.{Side}
 use Rattle.edge_match.specs.declared.config_sides.Side.TheVariants as side
 use Rattle.edge_match.specs.declared.errors.TooManyStubs.{TooManyStubs}
@@ -38,12 +40,12 @@ status_of outcome.Done = 0
 status_of outcome.Usage = 2
 status_of outcome.InputTooLong = 3
 status_of (outcome.Config fault) = 3
+status_of (outcome.BadWorkload line rule) = 3
 status_of outcome.ReadFault = 4
 status_of outcome.WriteFault = 5
 status_of outcome.NoMemory = 6
 status_of (outcome.NoSuchQuery query shape class) = 7
 status_of (outcome.TooManyStubs constraint side total) = 8
-status_of outcome.NotBuilt = 9
 
 -- the word that is printed for a side
 abbrev pub side_word : Side → List ℕ
@@ -53,6 +55,10 @@ side_word side.In = codes "in"
 -- the line of a configuration that breaks a rule
 abbrev pub broken_line : ℕ → ℕ → List ℕ
 broken_line rule index = codes "gmark: configuration breaks rule C" ++ (decimal rule ++ (codes " at " ++ decimal index))
+
+-- the line of a workload text that breaks a rule
+abbrev pub bad_line : ℕ → ℕ → List ℕ
+bad_line line rule = codes "gmark: workload breaks rule F" ++ (decimal rule ++ (codes " at line " ++ decimal line))
 
 -- the word that is printed for a shape
 abbrev pub shape_word : Shape → List ℕ
@@ -83,12 +89,12 @@ line_of outcome.Usage = codes "gmark: unknown command line"
 line_of outcome.InputTooLong = codes "gmark: input longer than 16777216 bytes"
 line_of (outcome.Config fault.NotJson) = codes "gmark: configuration is not JSON"
 line_of (outcome.Config (fault.Broken rule index)) = broken_line rule index
+line_of (outcome.BadWorkload line rule) = bad_line line rule
 line_of outcome.ReadFault = codes "gmark: reading failed"
 line_of outcome.WriteFault = codes "gmark: writing failed"
 line_of outcome.NoMemory = codes "gmark: out of memory"
 line_of (outcome.NoSuchQuery query shape class) = missing_line query shape class
 line_of (outcome.TooManyStubs constraint side total) = stubs_line constraint side total
-line_of outcome.NotBuilt = codes "gmark: form not built yet"
 
 -- outcomes that come only after the whole input was read: all but these
 abbrev pub is_after_reading : Outcome → Bool
@@ -156,6 +162,11 @@ read_outcome read.NoMemory = outcome.NoMemory
 abbrev pub config_outcome : ConfigError → Outcome
 config_outcome (config.Fault fault) = outcome.Config fault
 config_outcome config.NoMemory = outcome.NoMemory
+
+-- the outcome where an input has no workload
+abbrev pub workload_outcome : WorkloadError → Outcome
+workload_outcome (workload.BadWorkload line rule) = outcome.BadWorkload line rule
+workload_outcome workload.NoMemory = outcome.NoMemory
 
 -- the outcome of a query that can't be drawn
 abbrev pub missing_outcome : NoSuchQuery → Outcome

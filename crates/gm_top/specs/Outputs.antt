@@ -1,5 +1,7 @@
 -- The files that a work is to make: their names, their bytes, and what these mean.
 --   Output                            one such file
+--   pair_of names number q            those of a query
+--   query_outputs names n queries     those of queries that are numbered one after another
 --   outputs_of work                   those of a work, in order
 --   IsAccepted work                   a work that can be decided
 --   name_of output                    the name of a file
@@ -12,63 +14,83 @@
 --   MakesPart outputs old new         a folder has gained a part of them
 --   TakesCalls outputs before now     a folder was called as often as these files take
 --   TakesCallsWithin outputs ..       it was called no more often than that
-use Rattle.std.specs.Prelude.{◌≡◌, ◌≤◌, ℕ, List, [], ◌∷◌, Option, codes, ⊤}
+use Rattle.std.specs.Prelude.{◌≡◌, ◌≤◌, ℕ, ◌+◌, List, [], ◌∷◌, ◌++◌, Option, codes, ⊤}
 use Rattle.gm_io.specs.Count.{raised}
 use Rattle.gm_io.specs.FileList.{FileList, Gained, GainedPart}
 use Rattle.gm_files.specs.Calls.{all_calls}
 use Rattle.gm_files.specs.QueryName.{query_name_of}
-use Rattle.gm_files.specs.declared.texts.QueryFile.TheVariants.{Sparql}
-use Rattle.gm_text.specs.Name.{IsName}
+use Rattle.gm_files.specs.declared.texts.QueryFile.{QueryFile}
+use Rattle.gm_files.specs.declared.texts.QueryFile.TheVariants.{Sparql, Sql}
 use Rattle.graph_text.specs.declared.graphs.Triple.{Triple}
 use Rattle.graph_text.specs.EdgesText.{IsReading}
 use Rattle.gm_config.specs.Config.{ConfigValue}
 use Rattle.edge_match.specs.AllEdges.{AreAllEdges}
 use Rattle.edge_match.specs.ConformingGraph.{IsConforming}
-use Rattle.sparql_read.specs.Plain.{plain_sparql_text}
+use Rattle.query_terms.specs.Values.{QueryValue}
+use Rattle.query_texts.specs.Texts.{text_of, MeansQuery}
 use Rattle.gm_top.specs.declared.work.Work.{Work}
-use Rattle.gm_top.specs.declared.work.Work.TheVariants.{Query, Files}
+use Rattle.gm_top.specs.declared.work.Work.TheVariants.{Queries, Files}
 use Rattle.workload_text.specs.Lines as lines
-use Rattle.workload_text.specs.Values.{WorkValue}
+use Rattle.query_draw.specs.Query.{query_of}
+use Rattle.workload_text.specs.Head.{head_of}
+use Rattle.workload_text.specs.Values.{WorkValue, IsWork}
 use Rattle.gm_top.specs.Generation.{IsAcceptedFor}
 use Rattle.gm_top.specs.Workload.{workload_of, HaveClasses}
-use Rattle.gm_top.specs.Rows.{MeansQuery}
 
--- a file: the graph or the workload of a configuration and a seed, or the query for the edges of a label
+-- a file: the graph or the workload of a configuration and a seed, or the query with a number in a language, where the
+-- labels have these names
 pub data Output : Type 0 where
   graph : ConfigValue → ℕ → Output
   workload : ConfigValue → ℕ → Output
-  query : List ℕ → Output
+  query_file : QueryFile → List (List ℕ) → ℕ → QueryValue → Output
+
+-- a query in SPARQL, and then in SQL
+abbrev pub pair_of : List (List ℕ) → ℕ → QueryValue → List Output
+pair_of names number q = query_file Sparql names number q ∷ query_file Sql names number q ∷ []
+
+-- so each of some queries
+abbrev pub query_outputs : List (List ℕ) → ℕ → List QueryValue → List Output
+query_outputs names number [] = []
+query_outputs names number (q ∷ queries) = pair_of names number q ++ query_outputs names (number + 1) queries
+
+-- the drawn query with a number
+abbrev pub drawn_outputs : ConfigValue → (seed number : ℕ) → List Output
+drawn_outputs config seed number = pair_of (head_of config).labels number (query_of config seed number)
+
+-- the queries of a workload, under the names of its labels
+abbrev pub work_outputs : WorkValue → List Output
+work_outputs v = query_outputs v.head.labels 0 v.queries
 
 -- the files that a work is to make, in order
 abbrev pub outputs_of : Work → List Output
-outputs_of (Query label) = query label ∷ []
-outputs_of (Files g) = graph g.config g.seed ∷ workload g.config g.seed ∷ []
+outputs_of (Queries v) = work_outputs v
+outputs_of (Files g) = graph g.config g.seed ∷ workload g.config g.seed ∷ work_outputs (workload_of g.config g.seed)
 
--- a work that can be decided: the label is a name, or nothing of the configuration is refused
+-- a work that can be decided: the workload keeps its rules, or nothing of the configuration is refused
 abbrev pub IsAccepted : Work → Type 0
-IsAccepted (Query label) = IsName label
+IsAccepted (Queries v) = IsWork v
 IsAccepted (Files g) = IsAcceptedFor g.config g.seed
 
 -- the name of a file
 abbrev pub name_of : Output → List ℕ
 name_of (graph config seed) = codes "graph.txt"
 name_of (workload config seed) = codes "workload.txt"
-name_of (query label) = query_name_of 0 Sparql
+name_of (query_file kind names number q) = query_name_of number kind
 
--- the bytes of a file: the lines of all edges, the text of the head and of the drawn queries, or the text of the query
+-- the bytes of a file: the lines of all edges, the text of the head and of the drawn queries, or the text of a query
 abbrev pub IsTextOf : Output → List ℕ → Type 0
 IsTextOf (graph config seed) text = (edges : List Triple) × AreAllEdges config seed edges × IsReading text edges
 IsTextOf (workload config seed) text = text ≡ lines.work_text (workload_of config seed)
-IsTextOf (query label) text = text ≡ plain_sparql_text label
+IsTextOf (query_file kind names number q) text = text ≡ text_of kind names q
 
 -- What the bytes of a file mean: they read as a list of edges that conforms to the configuration and the seed; they
 -- read as the configuration's head with its drawn queries, each of which has the classes of its words; or they have a
--- reading with the rows of the query.
+-- reading in their language with the rows of the query, over every list of triples.
 abbrev pub Means : Output → List ℕ → Type 0
 Means (graph config seed) text = (edges : List Triple) × IsReading text edges × IsConforming config seed edges
 Means (workload config seed) text =
     (v : WorkValue) × lines.IsReading text v × (v ≡ workload_of config seed) × HaveClasses config seed v
-Means (query label) text = MeansQuery label text
+Means (query_file kind names number q) text = MeansQuery kind names q text
 
 -- at each place a file has the name that it is to have, and its bytes have a property
 abbrev pub AreFiles : (Output → List ℕ → Type 0) → List Output → FileList → Type 0

@@ -5,7 +5,7 @@
 --   all_queries_text config seed        the lines of all of them
 --   HasClasses config seed number g q   the classes of a query with a number are those of its words over a schema
 --   HaveClasses config seed v           so are those of each query of a workload
-use Rattle.std.specs.Prelude.{◌≡◌, ℕ, false, if◌then◌else◌, List, map, Option, Some, None, slice_get}
+use Rattle.std.specs.Prelude.{◌≡◌, ℕ, false, if◌then◌else◌, List, map, Some, None, slice_get}
 use Rattle.std.specs.List.{range_with_len}
 use Rattle.sel_algebra.specs.Entries.{ClassEntryAtMost}
 use Rattle.schema_graph.specs.Schema.{SchemaValue}

@@ -13,6 +13,7 @@ ghost use Rattle.gm_top.specs.Outputs.{outputs_of, MakesFiles, MakesPart, TakesC
 use crate::generation::Generation;
 use crate::graph_file::write_graph;
 use crate::outcomes::Outcome;
+use crate::query_files::write_queries;
 use crate::work::Work;
 use crate::workload_file::write_workload;
 use edge_match::first_over;
@@ -23,7 +24,7 @@ use query_draw::first_missing;
 use std::alloc::{AllocError, Global};
 
 /// Decides what is to be done with a configuration. It makes no file.
-pub(crate) fn decided(alloc: Global, seed: u64, bytes: &[u8]) -> Result<Work, Outcome>
+pub(crate) fn decided<'a>(alloc: Global, seed: u64, bytes: &[u8]) -> Result<Work<'a>, Outcome>
     ensures decision { result ≢ Err Outcome.NoMemory → IsDecision (Generate seed) bytes.now result }
     ensures stops { IfErr result (λ outcome. IsTrue (is_of_deciding outcome)) }
 {
@@ -78,5 +79,6 @@ pub(crate) fn written<F: Folder>(
         folder,
     )?;
     write_workload(alloc, generation, &mut pieces, folder)?;
+    write_queries(alloc, generation, folder)?;
     Ok(())
 }

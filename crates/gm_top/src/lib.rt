@@ -12,6 +12,7 @@ mod graph_file;
 pub mod laws;
 mod outcomes;
 mod putting;
+mod query_files;
 mod top;
 mod translating;
 mod work;

@@ -1,7 +1,7 @@
 //! How a run ends: its exit status and the line that is printed.
 
 ghost use Rattle.std.specs.Prelude.{◌≡◌, string_bytes, IfOk};
-ghost use Rattle.gm_top.specs.Outcome.{status_of, line_of, broken_line, missing_line, stubs_line};
+ghost use Rattle.gm_top.specs.Outcome.{status_of, line_of, broken_line, bad_line, missing_line, stubs_line};
 ghost use Rattle.gm_top.specs.Outcome.{class_word, shape_word, side_word};
 
 use edge_match::{MatchError, Side, TooManyStubs};
@@ -11,6 +11,7 @@ use gm_io::{Failed, ReadError};
 use query_draw::{DrawError, NoSuchQuery};
 use sel_algebra::{Class, Shape};
 use std::alloc::{AllocError, Global};
+use workload_text::WorkloadError;
 
 /// How a run of the program ends.
 #[derive(Clone, Copy, Debug, PartialEq, Eq)]
@@ -25,8 +26,13 @@ pub enum Outcome {
     InputTooLong,
     /// The input is no configuration.
     Config(ConfigFault),
-    /// The input isn't of a form that this version translates.
-    NotBuilt,
+    /// The input is no workload text.
+    BadWorkload {
+        /// The number of the first line that breaks a rule, counted from 1.
+        line: u64,
+        /// The least rule that it breaks, from 1 to 9.
+        rule: u8,
+    },
     /// A query can't be drawn: with no permitted number of conjuncts can its shape have its class.
     NoSuchQuery {
         /// The number of the query.
@@ -61,12 +67,12 @@ impl Outcome {
             Outcome::Usage => 2,
             Outcome::InputTooLong => 3,
             Outcome::Config(_) => 3,
+            Outcome::BadWorkload { .. } => 3,
             Outcome::ReadFault => 4,
             Outcome::WriteFault => 5,
             Outcome::NoMemory => 6,
             Outcome::NoSuchQuery { .. } => 7,
             Outcome::TooManyStubs { .. } => 8,
-            Outcome::NotBuilt => 9,
         }
     }
 
@@ -88,6 +94,7 @@ impl Outcome {
             Outcome::Config(ConfigFault::Broken { rule, index }) => {
                 broken_line(alloc, rule, index)
             }
+            Outcome::BadWorkload { line, rule } => bad_line(alloc, line, rule),
             Outcome::ReadFault => String::from_str(alloc, "gmark: reading failed"),
             Outcome::WriteFault => String::from_str(alloc, "gmark: writing failed"),
             Outcome::NoMemory => String::from_str(alloc, "gmark: out of memory"),
@@ -101,7 +108,6 @@ impl Outcome {
                 side,
                 total,
             } => stubs_line(alloc, constraint, side, total),
-            Outcome::NotBuilt => String::from_str(alloc, "gmark: form not built yet"),
         }
     }
 }
@@ -111,6 +117,13 @@ fn broken_line(alloc: Global, rule: u8, index: u32) -> Result<String, AllocError
     ensures { IfOk result (λ line. string_bytes line ≡ broken_line rule index) }
 {
     format!(in alloc; "gmark: configuration breaks rule C{rule} at {index}")
+}
+
+/// The line of a workload text that breaks a rule.
+fn bad_line(alloc: Global, line: u64, rule: u8) -> Result<String, AllocError>
+    ensures { IfOk result (λ text. string_bytes text ≡ bad_line line rule) }
+{
+    format!(in alloc; "gmark: workload breaks rule F{rule} at line {line}")
 }
 
 /// The line of a query that can't be drawn.
@@ -196,6 +209,19 @@ impl From<ConfigError> for Outcome {
         match error {
             ConfigError::Fault(fault) => Outcome::Config(fault),
             ConfigError::NoMemory => Outcome::NoMemory,
+        }
+    }
+}
+
+impl From<WorkloadError> for Outcome {
+    ghost use Rattle.gm_top.specs.Outcome.{workload_outcome};
+
+    ghost from_gives = { λ error outcome. outcome ≡ workload_outcome error };
+
+    fn from(error: WorkloadError) -> Self {
+        match error {
+            WorkloadError::BadWorkload { line, rule } => Outcome::BadWorkload { line, rule },
+            WorkloadError::NoMemory => Outcome::NoMemory,
         }
     }
 }

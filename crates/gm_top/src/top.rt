@@ -15,12 +15,14 @@ use crate::outcomes::Outcome;
 use crate::work::Work;
 use crate::{generating, translating};
 use gm_io::{Folder, Source, read_all};
+use gm_text::Arena;
 use std::alloc::Global;
 
 /// Runs the program on the words of its command line, a source for its input and a folder for its files.
 ///
-/// `translate` reads a workload text of the plain form and writes `query-0.sparql`. `generate SEED` reads a
-/// configuration and writes `graph.txt`. All is decided before a file is made. After `WriteFault` and `NoMemory`
+/// `translate` reads a workload text and writes the texts of its queries, `query-0.sparql`, `query-0.sql` and so on.
+/// `generate SEED` reads a configuration and writes `graph.txt`, `workload.txt` and the texts of the queries in it. All
+/// is decided before a file is made. After `WriteFault` and `NoMemory`
 /// a file may be unfinished: then a call of `finish` comes before a further run on that folder.
 pub fn run<S: Source, F: Folder>(
     alloc: Global,
@@ -43,7 +45,7 @@ pub fn run<S: Source, F: Folder>(
         → S.given source.new ≤ raised (S.given source.old) input_limit }
     ensures read_whole { IsTrue (is_after_reading result) → IsReadWhole (S.left source.old) (S.left source.new) }
 
-    // What is refused of the input: `Config`, `NotBuilt`, `NoSuchQuery` and `TooManyStubs`, each by its cause.
+    // What is refused of the input: `Config`, `BadWorkload`, `NoSuchQuery` and `TooManyStubs`, each by its cause.
     ensures refused { IsTrue (is_of_bytes result) → IsDecided (texts words.now) (S.left source.old) (Err result) }
 
     // The files. After `Done` they are read back from the folder.
@@ -79,7 +81,8 @@ pub fn run<S: Source, F: Folder>(
     let Some(command) = command_of(words) else {
         return Outcome::Usage;
     };
-    let work = match decided(alloc, command, source) {
+    let arena = Arena::new(alloc);
+    let work = match decided(alloc, command, source, &arena) {
         Ok(work) => work,
         Err(outcome) => return outcome,
     };
@@ -90,7 +93,12 @@ pub fn run<S: Source, F: Folder>(
 }
 
 /// Reads the input of a command and decides what is to be done. It makes no file.
-fn decided<S: Source>(alloc: Global, command: Command, source: &mut S) -> Result<Work, Outcome>
+fn decided<'a, S: Source>(
+    alloc: Global,
+    command: Command,
+    source: &mut S,
+    arena: &'a Arena,
+) -> Result<Work<'a>, Outcome>
     ensures decision { IsTrue (is_decision result) → Decides command (S.left source.old) result }
     ensures of_input { IfErr result (λ outcome. IsTrue (is_of_input outcome)) }
     ensures read_fault { IsErrOf result Outcome.ReadFault → Rose (S.faults source.old) (S.faults source.new) }
@@ -104,13 +112,13 @@ fn decided<S: Source>(alloc: Global, command: Command, source: &mut S) -> Result
 {
     let bytes = read_all(alloc, source)?;
     match command {
-        Command::Translate => translating::decided(alloc, &bytes),
+        Command::Translate => translating::decided(alloc, &bytes, arena),
         Command::Generate { seed } => generating::decided(alloc, seed, &bytes),
     }
 }
 
 /// Writes the files of a work.
-fn written<F: Folder>(alloc: Global, work: &Work, folder: &mut F) -> Result<(), Outcome>
+fn written<F: Folder>(alloc: Global, work: &Work<'_>, folder: &mut F) -> Result<(), Outcome>
     requires accepted { IsAccepted work.now }
     requires finished { F.unfinished folder.old ≡ false }
     ensures files { OnOk result (MakesFiles (outputs_of work.now) (F.files folder.old) (F.files folder.new)) }
@@ -123,7 +131,7 @@ fn written<F: Folder>(alloc: Global, work: &Work, folder: &mut F) -> Result<(), 
     ensures faults { ¬ IsErrOf result Outcome.WriteFault → F.faults folder.new ≡ F.faults folder.old }
 {
     match work {
-        Work::Query(label) => translating::written(alloc, label, folder),
+        Work::Queries(work) => translating::written(alloc, work, folder),
         Work::Files(generation) => generating::written(alloc, generation, folder),
     }
 }

@@ -20,7 +20,6 @@ use crate::putting::put_text;
 use gm_files::Pieces;
 use gm_io::Folder;
 use gm_text::Arena;
-use query_draw::draw_query;
 use std::alloc::{AllocError, Global};
 use workload_text::{WorkHead, write_end, write_head, write_query};
 
@@ -108,7 +107,7 @@ fn put_queries<F: Folder>(
 }
 
 /// The arena without what was in it, or a fresh one where it can't be emptied.
-fn emptied(alloc: Global, mut arena: Arena) -> Arena {
+pub(crate) fn emptied(alloc: Global, mut arena: Arena) -> Arena {
     match arena.reset() {
         Ok(()) => arena,
         Err(_) => Arena::new(alloc),
@@ -129,15 +128,7 @@ fn draw_lines(
         (text.new.items ≡ lines_text (query_lines number (query_of generation.now.config generation.now.seed number))) }
     ensures stops { IfErr result (λ outcome. outcome ≡ Outcome.NoMemory) }
 {
-    let query = draw_query(
-        alloc,
-        generation.config(),
-        generation.schema(),
-        generation.reach(),
-        generation.seed(),
-        number,
-        arena,
-    )?;
+    let query = generation.query(alloc, number, arena)?;
     text.clear();
     write_query(alloc, text, number, &query)?;
     Ok(())

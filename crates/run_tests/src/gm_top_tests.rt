@@ -3,13 +3,21 @@ use gm_top::{Outcome, run};
 use std::alloc::{AllocError, Global};
 use std::test::Fail;
 
-/// A workload text of the plain form.
+/// One query for the edges of a label.
 const KNOWS: &str =
     "gmark-workload 1\nlabel knows\ntype person growing\nedge 0 0 0 =\nquery 0 chain linear linear\nrule x0 x1\nx0 0 x1\nend\n";
 
 /// The same with a label that is no name.
 const DASH: &str =
     "gmark-workload 1\nlabel k-s\ntype person growing\nedge 0 0 0 =\nquery 0 chain linear linear\nrule x0 x1\nx0 0 x1\nend\n";
+
+/// The SPARQL text of the query.
+const KNOWS_SPARQL: &str =
+    "PREFIX : <http://gmark.example/>\nSELECT DISTINCT ?h0 ?h1 WHERE {\n{ ?h0 :knows ?h1 . }\n}\n";
+
+/// Both files of the query, with their names.
+const KNOWS_FILES: &str =
+    "query-0.sparql: PREFIX : <http://gmark.example/>\nSELECT DISTINCT ?h0 ?h1 WHERE {\n{ ?h0 :knows ?h1 . }\n}\nquery-0.sql: WITH RECURSIVE\nnodes(v) AS (SELECT e.src FROM edge AS e UNION SELECT e.trg FROM edge AS e),\nt0(src, trg) AS (SELECT e.src, e.trg FROM edge AS e WHERE e.label = 0)\nSELECT DISTINCT c0.src, c0.trg FROM t0 AS c0\n";
 
 /// One node with one edge to itself.
 const LOOP: &str =
@@ -56,12 +64,14 @@ fn command_line(alloc: Global, line: &str) -> Result<Vec<String>, AllocError> {
     Ok(words)
 }
 
-/// How a run ends, and the names and bytes of the files that it leaves, one behind the other.
+/// How a run ends, the names and bytes of the files that it leaves, one behind the other, and the bytes of
+/// `workload.txt`.
 #[derive(Drop)]
 struct Left {
     outcome: Outcome,
     line: String,
     files: Vec<u8>,
+    workload: Vec<u8>,
 }
 
 /// What a run on this command line and this input leaves, where the calls of the source and of the folder with
@@ -76,10 +86,14 @@ fn left_by(
 ) -> Result<Left, AllocError> {
     let words = command_line(alloc, line)?;
     let mut source = MemSource::new(text.to_vec(alloc)?, vec![in alloc; read]?);
-    let mut folder = MemFolder::new(alloc, vec![in alloc; call]?, keep, 2, 300_000)?;
+    let mut folder = MemFolder::new(alloc, vec![in alloc; call]?, keep, 30, 300_000)?;
     let outcome = run(alloc, &words, &mut source, &mut folder);
     let mut files = Vec::new(alloc);
+    let mut workload = Vec::new(alloc);
     for i in 0..folder.file_count() {
+        if folder.name(i) == "workload.txt" {
+            workload.extend_from_slice(folder.bytes(i))?;
+        }
         files.extend_from_slice(folder.name(i).as_bytes())?;
         files.extend_from_slice(b": ")?;
         files.extend_from_slice(folder.bytes(i))?;
@@ -88,6 +102,7 @@ fn left_by(
         outcome,
         line: outcome.line(alloc)?,
         files,
+        workload,
     })
 }
 
@@ -97,15 +112,7 @@ fn each_outcome_has_its_line_and_leaves_its_files(rt: HostRuntime) -> Result<(),
     // The command line, the input, the failing calls of the source and of the folder, and what is left. No call is
     // number 0.
     for (words, text, read, call, status, line, files) in [
-        (
-            "translate",
-            KNOWS,
-            0,
-            0,
-            0,
-            "gmark: done",
-            "query-0.sparql: PREFIX : <http://gmark.example/>\nSELECT DISTINCT ?h0 ?h1 WHERE {\n{ ?h0 :knows ?h1 . }\n}\n",
-        ),
+        ("translate", KNOWS, 0, 0, 0, "gmark: done", KNOWS_FILES),
         (
             "generate 7",
             LOOP,
@@ -292,8 +299,26 @@ fn each_outcome_has_its_line_and_leaves_its_files(rt: HostRuntime) -> Result<(),
             "gmark: constraint 0 in: 6000000 stubs",
             "",
         ),
-        ("translate", "", 0, 0, 9, "gmark: form not built yet", ""),
-        ("translate", DASH, 0, 0, 9, "gmark: form not built yet", ""),
+        (
+            "translate",
+            "",
+            0,
+            0,
+            3,
+            "gmark: workload breaks rule F1 at line 1",
+            "",
+        ),
+        (
+            "translate",
+            DASH,
+            0,
+            0,
+            3,
+            "gmark: workload breaks rule F4 at line 2",
+            "",
+        ),
+        ("translate", KNOWS, 1, 0, 4, "gmark: reading failed", ""),
+        ("translate", KNOWS, 2, 0, 4, "gmark: reading failed", ""),
     ] {
         let left = left_by(alloc, words, text.as_bytes(), read, call, 4)?;
         assert_eq!(rt;
@@ -309,6 +334,35 @@ fn each_outcome_has_its_line_and_leaves_its_files(rt: HostRuntime) -> Result<(),
         Outcome::NoMemory.line(alloc)?.as_str(),
         "gmark: out of memory"
     );
+    Ok(())
+}
+
+#[test]
+fn a_failed_call_leaves_the_start_of_the_texts(rt: HostRuntime) -> Result<(), Fail> {
+    let alloc = rt.alloc();
+    let first = "query-0.sparql: ".len();
+    // The failing call, and the number of bytes that are left of both files and their names.
+    for (call, bytes) in [
+        (1, 0),
+        (2, first + 10),
+        (3, first + KNOWS_SPARQL.len()),
+        (4, first + KNOWS_SPARQL.len()),
+        (
+            5,
+            first + KNOWS_SPARQL.len() + "query-0.sql: WITH RECUR".len(),
+        ),
+        (6, KNOWS_FILES.len()),
+    ] {
+        let left = left_by(alloc, "translate", KNOWS.as_bytes(), 0, call, 10)?;
+        assert_eq!(rt;
+            (
+                left.outcome,
+                left.files.len(),
+                KNOWS_FILES.as_bytes().starts_with(&left.files)
+            ),
+            (Outcome::WriteFault, bytes, true)
+        );
+    }
     Ok(())
 }
 
@@ -408,7 +462,7 @@ fn a_query_is_drawn_or_named(rt: HostRuntime) -> Result<(), Fail> {
             ("linear", "0", "[1,1]"),
             0,
             "gmark: done",
-            "workload.txt: gmark-workload 1\nlabel p\ntype a fixed\ntype b growing\nedge 0 0 1 <\nquery 0 chain linear linear\nrule x0 x1\nx0 0 x1\nend\n",
+            "gmark-workload 1\nlabel p\ntype a fixed\ntype b growing\nedge 0 0 1 <\nquery 0 chain linear linear\nrule x0 x1\nx0 0 x1\nend\n",
         ),
         (
             "generate 7",
@@ -424,7 +478,7 @@ fn a_query_is_drawn_or_named(rt: HostRuntime) -> Result<(), Fail> {
             ("linear", "0", "[1,1],\"arity\":[4,4]"),
             0,
             "gmark: done",
-            "workload.txt: gmark-workload 2\nlabel p\ntype a fixed\ntype b growing\nedge 0 0 1 <\nquery 0 chain linear linear\nrule x0 x1\nx0 0 x1\nend\n",
+            "gmark-workload 2\nlabel p\ntype a fixed\ntype b growing\nedge 0 0 1 <\nquery 0 chain linear linear\nrule x0 x1\nx0 0 x1\nend\n",
         ),
         (
             "generate 2",
@@ -481,7 +535,7 @@ fn a_query_is_drawn_or_named(rt: HostRuntime) -> Result<(), Fail> {
             (
                 left.outcome.status(),
                 left.line.as_str(),
-                left.files.ends_with(end.as_bytes()),
+                left.workload.ends_with(end.as_bytes()),
                 left.files.is_empty()
             ),
             (status, line, true, end.is_empty())
@@ -526,7 +580,7 @@ fn the_wide_class_is_that_of_the_labels(rt: HostRuntime) -> Result<(), Fail> {
         assert_eq!(rt;
             (
                 left.line.as_str(),
-                left.files.ends_with(end.as_bytes()),
+                left.workload.ends_with(end.as_bytes()),
                 left.files.is_empty()
             ),
             (line, true, end.is_empty())

@@ -1,5 +1,3 @@
-pub mod Printed
-pub mod WordLemmas
 pub mod PathComplete
 pub mod PathSound
 pub mod TextComplete

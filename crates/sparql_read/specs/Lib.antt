@@ -1,5 +1,3 @@
-pub mod Plain
-pub mod Names
 pub mod Tokens
 pub mod Grammar
 pub mod Text

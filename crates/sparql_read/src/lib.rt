@@ -6,12 +6,10 @@ mod levels;
 mod lexer;
 mod paths;
 mod places;
-mod plain;
 mod query;
 mod reader;
 mod tokens;
 
 pub use paths::{Path, PathId};
-pub use plain::{PlainSparql, SparqlWord, read_plain_sparql};
 pub use query::{Pattern, SparqlQuery};
 pub use reader::{SparqlError, read_sparql};

@@ -1,4 +1,3 @@
-pub mod Plain
 pub mod Values
 pub mod Lines
 pub mod Forms

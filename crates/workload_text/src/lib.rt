@@ -8,7 +8,6 @@ mod heads;
 pub mod laws;
 mod numbers;
 mod parts;
-mod plain;
 mod reader;
 mod sorts;
 mod state;
@@ -18,7 +17,6 @@ mod writing;
 mod written;
 
 pub use head::WorkHead;
-pub use plain::{PlainName, PlainWork, read_plain};
 pub use reader::WorkloadError;
 pub use work::{Workload, read_workload};
 pub use writing::{write_end, write_head, write_query};

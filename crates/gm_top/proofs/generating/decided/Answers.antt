@@ -11,8 +11,8 @@ returns-in-Some-clause-decision c = λ _.
     IsDecision-refused c.args.seed c.args.bytes.now _ _ c.in-Some.refusal c.in_ok-config.ensures.ok c.in_ok-generation.ensures
     (rw c.in-Some.is at c.in_ok-refusal.ensures)
 
-pub returns-in-None-clause-decision : goal.returns-in-None-clause-decision
-returns-in-None-clause-decision c = λ _.
+pub returns-clause-decision : goal.returns-clause-decision
+returns-clause-decision c = λ _.
     IsDecision-accepted c.args.seed c.args.bytes.now _ _ c.in_ok-config.ensures.ok c.in_ok-generation.ensures
     (rw c.in-None.is at c.in_ok-refusal.ensures)
 

@@ -1,8 +1,8 @@
 use Rattle.std.proofs.Common.{◌≡◌, ◌++◌, ◌+◌, ℕ, List, [], length, refl, sym, subst, arith, rules}
 use Rattle.std.proofs.lemmas.List.{length-append}
 use Rattle.gm_files.proofs.Gains.{Gained-write, Gained-nil, Gained-append}
-use Rattle.gm_top.specs.Putting.{AreLinesBefore, CallsToPut}
-use Rattle.gm_top.proofs.PutLemmas.{KeepsFiles-same, PutsPart-write, Gained-Puts, CallsToPut-none, CallsToPut-more}
+use Rattle.gm_top.specs.Putting.{AreLinesBefore}
+use Rattle.gm_top.proofs.PutLemmas.{PutsPart-write, Gained-Puts, CallsToPut-none, CallsToPut-more}
 use Rattle.gm_top.proofs.GraphLemmas.{OnErr-all, AreLinesBefore-none, AreLinesBefore-more, graph-whole, part-none, part-kept, part-lines, part-whole}
 use Rattle.gm_top.proofs.GraphLemmas.{calls-whole, calls-part, calls-none}
 use Rattle.gm_top.proofs.graph_file.write_graph.Goals as goal

@@ -1,8 +1,10 @@
-use Rattle.gm_top.proofs.DecisionLemmas.{IsDecision-plain, IsDecision-not_plain}
+use Rattle.gm_top.proofs.DecisionLemmas.{IsDecision-text, IsDecision-not_text}
 use Rattle.gm_top.proofs.translating.decided.Goals as goal
 
-pub returns-in-Some-clause-decision : goal.returns-in-Some-clause-decision
-returns-in-Some-clause-decision c = λ _. IsDecision-plain c.args.bytes.now c.in-Some.work.label (rw c.in-Some.is at c.in_ok-work.ensures.plain)
+pub returns-in_err-work-clause-decision : goal.returns-in_err-work-clause-decision
+returns-in_err-work-clause-decision c =
+    IsDecision-not_text c.from_residual.result c.args.bytes.now c.read_workload.result _ c.in_err-work.was c.from_residual.ensures.1
+    c.read_workload.ensures.bad
 
-pub returns-in-None-clause-decision : goal.returns-in-None-clause-decision
-returns-in-None-clause-decision c = λ _. IsDecision-not_plain c.args.bytes.now (rw c.in-None.is at c.in_ok-work.ensures.plain)
+pub returns-clause-decision : goal.returns-clause-decision
+returns-clause-decision c = λ _. IsDecision-text c.args.bytes.now c.in_ok-work.work c.in_ok-work.ensures.value

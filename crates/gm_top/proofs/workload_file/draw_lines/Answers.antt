@@ -1,24 +1,11 @@
-use Rattle.std.proofs.Common.{◌≡◌, ◌∙◌, List, ℕ, ◌++◌, Some, ap}
+use Rattle.std.proofs.Common.{◌∙◌, List, ℕ, ◌++◌, ap}
 use Rattle.query_terms.specs.View.{query_value}
-use Rattle.query_draw.specs.Query.{drawn_query}
-use Rattle.query_draw.specs.Refusals.{IsRefusal}
 use Rattle.workload_text.specs.Lines.{lines_text, query_lines}
-use Rattle.gm_top.proofs.WorkloadLemmas.{lent, drawn-value, draw-memory, memory-only}
 use Rattle.gm_top.proofs.workload_file.draw_lines.Goals as goal
-
-pub returns-in_err-query-clause-stops : goal.returns-in_err-query-clause-stops
-returns-in_err-query-clause-stops c =
-    let own = c.args.generation.now in
-    let error = c.in_err-query.field-0.0 in
-    let refusal = lent (λ config seed. IsRefusal config seed c.args.number error) _ own.config _ own.seed c.config.ensures c.seed.ensures c.in_err-query.ensures.no_such in
-    memory-only c.from_residual.result error (draw-memory own.config own.seed c.args.number error c.requires.drawable refusal) c.from_residual.ensures.1
 
 pub returns-clause-text : goal.returns-clause-text
 returns-clause-text c =
-    let own = c.args.generation.now in
     let q = query_value c.in_ok-query.query in
-    let drawn = lent (λ config seed. drawn_query config seed c.args.number ≡ Some q) _ own.config _ own.seed c.config.ensures c.seed.ensures c.in_ok-query.ensures.drawn in
-    let value = drawn-value own.config own.seed c.args.number q c.requires.drawable drawn in
     c.in_ok-write_query.ensures.ok
     ∙ ap (λ (bytes : List ℕ). bytes ++ lines_text (query_lines c.args.number q)) c.clear.ensures.items
-    ∙ ap (λ query. lines_text (query_lines c.args.number query)) value
+    ∙ ap (λ query. lines_text (query_lines c.args.number query)) c.in_ok-query.ensures.query

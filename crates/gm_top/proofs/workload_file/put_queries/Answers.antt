@@ -1,5 +1,5 @@
-use Rattle.std.proofs.Common.{◌≡◌, ◌∙◌, ◌<◌, ◌+◌, List, ℕ, ◌++◌, refl, ap, sym, arith, rules}
-use Rattle.gm_top.specs.Workload.{queries_text, all_queries_text}
+use Rattle.std.proofs.Common.{◌≡◌, ◌∙◌, ◌+◌, List, ℕ, ◌++◌, refl, ap, sym, arith, rules}
+use Rattle.gm_top.specs.Workload.{queries_text}
 use Rattle.gm_top.proofs.GraphLemmas.{OnErr-all}
 use Rattle.gm_top.proofs.PutLemmas.{PutsText-none, PutsText-same, PutsText-append, PutsTextPart-append, PutsTextPart-stopped}
 use Rattle.gm_top.proofs.WorkloadLemmas.{queries_text-more, all_queries-rest}

@@ -1,4 +1,4 @@
-use Rattle.std.proofs.Common.{◌≡◌, ◌∙◌, ◌≤◌, List, ℕ, [], ◌∷◌, ◌++◌, length, refl, ap, sym, append_assoc, append-nil, arith}
+use Rattle.std.proofs.Common.{◌≡◌, ◌∙◌, List, ℕ, [], ◌∷◌, ◌++◌, refl, ap, sym, append_assoc, append-nil, arith}
 use Rattle.gm_files.proofs.Gains.{Gained-nil, Gained-append, GainedPart-all}
 use Rattle.workload_text.specs.Lines.{lines_text, head_lines, work_text}
 use Rattle.workload_text.specs.Lines.WorkLine.{EndLine}

@@ -1,0 +1,143 @@
+//! The files of a query.
+
+ghost use Rattle.std.specs.Prelude.{◌≡◌, ◌<◌, [], ◌∷◌, true, false, IfErr, OnOk, OnErr, IsErrOf, IsTrue};
+ghost use Rattle.gm_io.specs.Count.{Rose};
+ghost use Rattle.query_terms.specs.View.{query_value};
+ghost use Rattle.workload_text.specs.Values.{IsQuery};
+ghost use Rattle.workload_text.specs.Head.{head_of};
+ghost use Rattle.gm_config.specs.Config.{IsConfig};
+ghost use Rattle.query_draw.specs.Query.{has_query};
+ghost use Rattle.gm_top.specs.Outcome.{is_of_writing};
+ghost use Rattle.gm_top.specs.Outputs.{query_file, pair_of, work_outputs, drawn_outputs, MakesFiles, MakesPart, TakesCalls, TakesCallsWithin};
+ghost use Rattle.gm_top.specs.Generation.{IsAcceptedFor};
+ghost use Rattle.gm_top.specs.Workload.{workload_of};
+
+use crate::generation::Generation;
+use crate::outcomes::Outcome;
+use crate::workload_file::emptied;
+use gm_files::{QueryFile, put_file, query_name};
+use gm_io::Folder;
+use gm_text::Arena;
+use query_terms::Query;
+use query_texts::query_text;
+use std::alloc::Global;
+use workload_text::WorkHead;
+
+/// Writes the files of the drawn queries of a configuration.
+pub(crate) fn write_queries<F: Folder>(
+    alloc: Global,
+    generation: &Generation,
+    folder: &mut F,
+) -> Result<(), Outcome>
+    requires accepted { IsAcceptedFor generation.now.config generation.now.seed }
+    requires finished { F.unfinished folder.old ≡ false }
+    ensures files { OnOk result (MakesFiles (work_outputs (workload_of generation.now.config generation.now.seed))
+        (F.files folder.old) (F.files folder.new)) }
+    ensures finished { OnOk result (F.unfinished folder.new ≡ false) }
+    ensures part { OnErr result (MakesPart (work_outputs (workload_of generation.now.config generation.now.seed))
+        (F.files folder.old) (F.files folder.new)) }
+    ensures calls { OnOk result (TakesCalls (work_outputs (workload_of generation.now.config generation.now.seed))
+        (F.calls folder.old) (F.calls folder.new)) }
+    ensures part_calls { OnErr result (TakesCallsWithin (work_outputs (workload_of generation.now.config generation.now.seed))
+        (F.calls folder.old) (F.calls folder.new)) }
+    ensures stops { IfErr result (λ outcome. IsTrue (is_of_writing outcome)) }
+    ensures fault { IsErrOf result Outcome.WriteFault → Rose (F.faults folder.old) (F.faults folder.new) }
+    ensures faults { ¬ IsErrOf result Outcome.WriteFault → F.faults folder.new ≡ F.faults folder.old }
+{
+    let head = WorkHead::of(alloc, generation.config())?;
+    let mut arena = Arena::new(alloc);
+    for number in 0..generation.query_count() {
+        write_drawn(alloc, generation, &head, number, &arena, folder)?;
+        arena = emptied(alloc, arena);
+    }
+    Ok(())
+}
+
+/// Writes the files of the drawn query with a number.
+fn write_drawn<F: Folder>(
+    alloc: Global,
+    generation: &Generation,
+    head: &WorkHead,
+    number: u32,
+    arena: &Arena,
+    folder: &mut F,
+) -> Result<(), Outcome>
+    requires rules { IsConfig generation.now.config }
+    requires head { head.now ≡ head_of generation.now.config }
+    requires within { number < generation.now.config.workload.queries }
+    requires drawable { has_query generation.now.config generation.now.seed number ≡ true }
+    requires finished { F.unfinished folder.old ≡ false }
+    ensures files { OnOk result
+        (MakesFiles (drawn_outputs generation.now.config generation.now.seed number) (F.files folder.old) (F.files folder.new)) }
+    ensures finished { OnOk result (F.unfinished folder.new ≡ false) }
+    ensures part { OnErr result
+        (MakesPart (drawn_outputs generation.now.config generation.now.seed number) (F.files folder.old) (F.files folder.new)) }
+    ensures calls { OnOk result
+        (TakesCalls (drawn_outputs generation.now.config generation.now.seed number) (F.calls folder.old) (F.calls folder.new)) }
+    ensures part_calls { OnErr result
+        (TakesCallsWithin (drawn_outputs generation.now.config generation.now.seed number) (F.calls folder.old) (F.calls folder.new)) }
+    ensures stops { IfErr result (λ outcome. IsTrue (is_of_writing outcome)) }
+    ensures fault { IsErrOf result Outcome.WriteFault → Rose (F.faults folder.old) (F.faults folder.new) }
+    ensures faults { ¬ IsErrOf result Outcome.WriteFault → F.faults folder.new ≡ F.faults folder.old }
+{
+    let query = generation.query(alloc, number, arena)?;
+    write_query(alloc, head, number, &query, folder)
+}
+
+/// Writes the file of the query with a number in SPARQL, and then that in SQL.
+pub(crate) fn write_query<F: Folder>(
+    alloc: Global,
+    head: &WorkHead,
+    number: u32,
+    query: &Query<'_>,
+    folder: &mut F,
+) -> Result<(), Outcome>
+    requires kept { IsQuery head.now (query_value query.now) }
+    requires finished { F.unfinished folder.old ≡ false }
+    ensures files { OnOk result (MakesFiles (pair_of head.now.labels number (query_value query.now))
+        (F.files folder.old) (F.files folder.new)) }
+    ensures finished { OnOk result (F.unfinished folder.new ≡ false) }
+    ensures part { OnErr result (MakesPart (pair_of head.now.labels number (query_value query.now))
+        (F.files folder.old) (F.files folder.new)) }
+    ensures calls { OnOk result (TakesCalls (pair_of head.now.labels number (query_value query.now))
+        (F.calls folder.old) (F.calls folder.new)) }
+    ensures part_calls { OnErr result (TakesCallsWithin (pair_of head.now.labels number (query_value query.now))
+        (F.calls folder.old) (F.calls folder.new)) }
+    ensures stops { IfErr result (λ outcome. IsTrue (is_of_writing outcome)) }
+    ensures fault { IsErrOf result Outcome.WriteFault → Rose (F.faults folder.old) (F.faults folder.new) }
+    ensures faults { ¬ IsErrOf result Outcome.WriteFault → F.faults folder.new ≡ F.faults folder.old }
+{
+    write_text(alloc, head, number, query, QueryFile::Sparql, folder)?;
+    write_text(alloc, head, number, query, QueryFile::Sql, folder)?;
+    Ok(())
+}
+
+/// Writes the file of the query with a number in a language.
+fn write_text<F: Folder>(
+    alloc: Global,
+    head: &WorkHead,
+    number: u32,
+    query: &Query<'_>,
+    kind: QueryFile,
+    folder: &mut F,
+) -> Result<(), Outcome>
+    requires kept { IsQuery head.now (query_value query.now) }
+    requires finished { F.unfinished folder.old ≡ false }
+    ensures files { OnOk result (MakesFiles (query_file kind head.now.labels number (query_value query.now) ∷ [])
+        (F.files folder.old) (F.files folder.new)) }
+    ensures finished { OnOk result (F.unfinished folder.new ≡ false) }
+    ensures part { OnErr result (MakesPart (query_file kind head.now.labels number (query_value query.now) ∷ [])
+        (F.files folder.old) (F.files folder.new)) }
+    ensures calls { OnOk result (TakesCalls (query_file kind head.now.labels number (query_value query.now) ∷ [])
+        (F.calls folder.old) (F.calls folder.new)) }
+    ensures part_calls { OnErr result (TakesCallsWithin (query_file kind head.now.labels number (query_value query.now) ∷ [])
+        (F.calls folder.old) (F.calls folder.new)) }
+    ensures stops { IfErr result (λ outcome. IsTrue (is_of_writing outcome)) }
+    ensures fault { IsErrOf result Outcome.WriteFault → Rose (F.faults folder.old) (F.faults folder.new) }
+    ensures faults { ¬ IsErrOf result Outcome.WriteFault → F.faults folder.new ≡ F.faults folder.old }
+{
+    let text = query_text(alloc, kind, head, query)?;
+    let name = query_name(alloc, number, kind)?;
+    put_file(folder, &name, &text)?;
+    Ok(())
+}

@@ -1,0 +1,5 @@
+pub mod RuleLemmas
+pub mod TermLemmas
+pub mod NameLemmas
+pub mod LinkLemmas
+pub mod MeaningLemmas
