@@ -29,17 +29,19 @@ use Rattle.workload_text.specs.declared.reader.WorkloadError.{WorkloadError}
 use Rattle.workload_text.specs.declared.reader.WorkloadError.TheVariants as workload
 use Rattle.workload_text.proofs.ReadingLemmas.{reading}
 use Rattle.gm_top.specs.declared.commands.Command.{Command}
-use Rattle.gm_top.specs.declared.commands.Command.TheVariants.{Translate, Generate}
+use Rattle.gm_top.specs.declared.commands.Command.TheVariants.{Translate, Generate, Sample}
 use Rattle.gm_top.specs.declared.outcomes.Outcome.{Outcome}
 use Rattle.gm_top.specs.declared.outcomes.Outcome.TheVariants as outcome
 use Rattle.gm_top.specs.declared.work.Work.{Work}
-use Rattle.gm_top.specs.declared.work.Work.TheVariants.{Queries, Files}
-use Rattle.gm_top.specs.Command.{input_of}
+use Rattle.gm_top.specs.declared.work.Work.TheVariants.{Queries, Files, Sampled}
+use Rattle.gm_top.specs.Command.{input_of, CanBeAsked, reads}
+use Rattle.gm_config.specs.Sample.{sample_of}
+use Rattle.gm_top.proofs.SampleLemmas.{sample-accepted}
 use Rattle.gm_top.specs.Outcome.{config_outcome, workload_outcome, broken_outcome, missing_outcome, stubs_outcome, is_decision, is_of_deciding}
 use Rattle.gm_top.specs.Decision.{first_refusal, config_refusal, query_refusal, side_refusal, files_decision, text_decision, IsRefusalOf, IsDecision, Decides}
 use Rattle.gm_top.specs.Generation.{GenerationValue, CanDraw}
 use Rattle.gm_top.specs.Outputs.{IsAccepted}
-use Rattle.gm_top.specs.Run.{IsReadWhole}
+use Rattle.gm_top.specs.Run.{IsReadWhole, IsTooLong}
 
 -- ---- the first of some refusals
 
@@ -294,14 +296,19 @@ text-accepted bytes (Err (line, rule)) work is same = absurd (not_ok work line r
     not_ok work line rule same = cc
 
 -- a decided work is accepted
-pub IsAccepted-IsDecision : (command : Command) (bytes : List ℕ) (work : Work) → IsDecision command bytes (Ok work) → IsAccepted work
+pub IsAccepted-IsDecision : (command : Command) → CanBeAsked command → (bytes : List ℕ) (work : Work) → IsDecision command bytes (Ok work) → IsAccepted work
 unfolding files_decision
-IsAccepted-IsDecision Translate bytes work is = text-accepted bytes (verdict_of bytes) work refl is
-IsAccepted-IsDecision (Generate seed) bytes work (None, none, is) = absurd (not_ok work is)
+IsAccepted-IsDecision Translate asked bytes work is = text-accepted bytes (verdict_of bytes) work refl is
+IsAccepted-IsDecision (Generate seed) asked bytes work (None, none, is) = absurd (not_ok work is)
   where
     not_ok : (work : Work) → Ok work ≡ files_decision seed None → ⊥
     not_ok work is = cc
-IsAccepted-IsDecision (Generate seed) bytes work (Some d, reads, is) =
+IsAccepted-IsDecision (Sample k) asked bytes work is = subst IsAccepted (sampled work k is) (sample-accepted k asked.0 asked.1, refl)
+  where
+    sampled : (work : Work) (k : ℕ) → ◌≡◌ {A = Result Work Outcome} (Ok work) (Ok (Sampled (record { config = sample_of k; seed = k })))
+        → Sampled (record { config = sample_of k; seed = k }) ≡ work
+    sampled work k is = cc
+IsAccepted-IsDecision (Generate seed) asked bytes work (Some d, reads, is) =
     let facts = decided-files seed d work (sym is) in
     subst IsAccepted (sym facts.3) (record { rules = IsConfig-first_broken d facts.0; queries = facts.1; sides = facts.2 })
 
@@ -322,3 +329,16 @@ IsReadWhole-read left left_after bytes at_end all short = record { at_end = at_e
     within : (left : Option (List ℕ)) → AreAllLeft left bytes → IfSome left (λ bytes. length bytes ≤ input_limit)
     within None all = tt
     within (Some xs) all = subst (λ (xs : List ℕ). length xs ≤ input_limit) all short
+
+-- an input within the limit, and none where none is read
+pub input-short : (command : Command) (left left_after : Option (List ℕ)) → (reads command ≡ true → IsReadWhole left left_after)
+    → IfSome (input_of command left) (λ bytes. length bytes ≤ input_limit)
+input-short Translate left left_after whole = (whole refl).short
+input-short (Generate seed) left left_after whole = (whole refl).short
+input-short (Sample k) left left_after whole = omega arith
+
+-- an input that is too long is what the source has left
+pub too-long-left : (command : Command) (left : Option (List ℕ)) → IsTooLong (input_of command left) → IsTooLong left
+too-long-left Translate left long = long
+too-long-left (Generate seed) left long = long
+too-long-left (Sample k) left long = absurd (omega (arith, long))

@@ -6,6 +6,8 @@ pub mod QueryLemmas
 pub mod GraphLemmas
 pub mod WorkloadLemmas
 pub mod KeptLemmas
+pub mod SampleLemmas
 pub mod LawLemmas
+pub mod TogetherLemmas
 pub mod RunLemmas
 pub mod WordLemmas

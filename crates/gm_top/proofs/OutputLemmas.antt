@@ -2,7 +2,7 @@
 use Rattle.std.proofs.Common.{◌≡◌, ℕ, ◌+◌, ◌≤◌, List, [], ◌∷◌, ◌++◌, length, Option, refl, arith}
 use Rattle.std.proofs.lemmas.List.Sums.{sum_by-append}
 use Rattle.gm_io.specs.Count.{raised}
-use Rattle.gm_io.specs.FileList.{FileList, Gained}
+use Rattle.gm_io.specs.FileList.{FileList, Gained, GainedPart}
 use Rattle.gm_io.specs.Folder.{KeepsFiles}
 use Rattle.gm_files.specs.Calls.{file_calls, all_calls}
 use Rattle.gm_files.proofs.Gains.{Gained-append, Gained-nil, GainedPart-append, GainedPart-longer, GainedPart-none, GainedPart-all}
@@ -82,3 +82,7 @@ TakesCalls-one output text before now is called = ((name_of output, text) ∷ []
 pub TakesCallsWithin-one : (output : Output) (text : List ℕ) (before now : ℕ) → IsTextOf output text → now ≤ raised before (file_calls (length text))
     → TakesCallsWithin (output ∷ []) before now
 TakesCallsWithin-one output text before now is few = ((name_of output, text) ∷ [], (refl, is, tt), omega (arith, few))
+
+pub MakesPart-one : (output : Output) (text : List ℕ) (old new : Option FileList) → IsTextOf output text → GainedPart old new ((name_of output, text) ∷ [])
+    → MakesPart (output ∷ []) old new
+MakesPart-one output text old new is gained = ((name_of output, text) ∷ [], (refl, is, tt), gained)

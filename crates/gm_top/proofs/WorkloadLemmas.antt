@@ -21,7 +21,9 @@ use Rattle.gm_top.specs.declared.outcomes.Outcome.{Outcome}
 use Rattle.gm_top.specs.declared.outcomes.Outcome.TheVariants as outcome
 use Rattle.gm_top.specs.Outcome.{draw_outcome}
 use Rattle.gm_top.specs.Generation.{CanDraw}
-use Rattle.gm_top.specs.Workload.{queries_of, workload_of, queries_text, all_queries_text, HasClasses, HaveClasses}
+use Rattle.gm_top.specs.Workload.{queries_of, workload_of, queries_text, all_queries_text, HasClasses, HaveClasses, AreBounded}
+use Rattle.constant_rows.specs.Bounded.{IsBounded}
+use Rattle.constant_rows.proofs.BoundLemmas.{constant_queries_are_bounded}
 
 -- ---- lines, one after another
 
@@ -104,6 +106,18 @@ module _ (config : ConfigValue) (seed : ℕ) where
       let is : f number ≡ q =
       sym (get_or-map-range_with_len f 0 n number number q within (omega arith)) ∙ get_or_from_slice_get (queries_of config seed) number q q found in
       subst (HasClasses config seed number (schema_of config)) is (drawn-classes rules number (can number within))
+
+  -- where its wide class is constant, a drawn query is bounded
+  pub workload-bounded : IsConfig config → CanDraw config seed → AreBounded config (workload_of config seed)
+  workload-bounded rules can number q found wide =
+      let f = query_of config seed in
+      let n = config.workload.queries in
+      let inside = slice_get_within (queries_of config seed) number q found in
+      let long = length-map-range_with_len f 0 n in
+      let within : number < n = omega (arith, inside, long) in
+      let is : f number ≡ q =
+      sym (get_or-map-range_with_len f 0 n number number q within (omega arith)) ∙ get_or_from_slice_get (queries_of config seed) number q q found in
+      subst (IsBounded config) is (constant_queries_are_bounded config rules seed number (can number within) (ap (λ (q : QueryValue). q.wide) is ∙ wide))
 
   -- ---- the file
 

@@ -22,6 +22,7 @@ use Rattle.gm_config.specs.Config.{ConfigValue}
 use Rattle.gm_config.specs.Reading.{Reads, config_of}
 use Rattle.gm_config.specs.Rule.{first_broken}
 use Rattle.gm_config.specs.Rules.{rules}
+use Rattle.gm_config.specs.Sample.{sample_of}
 use Rattle.gm_config.specs.declared.errors.ConfigFault.TheVariants as fault
 use Rattle.query_draw.specs.Query.{drawn_shape, drawn_class, has_query}
 use Rattle.query_draw.specs.declared.missing.NoSuchQuery.{NoSuchQuery}
@@ -30,11 +31,11 @@ use Rattle.edge_match.specs.declared.errors.TooManyStubs.{TooManyStubs}
 use Rattle.edge_match.specs.Limit.{first_side_over, IsWithinLimit, IsFirstOver}
 use Rattle.workload_text.specs.Rules.{Verdict, verdict_of}
 use Rattle.gm_top.specs.declared.commands.Command.{Command}
-use Rattle.gm_top.specs.declared.commands.Command.TheVariants.{Translate, Generate}
+use Rattle.gm_top.specs.declared.commands.Command.TheVariants.{Translate, Generate, Sample}
 use Rattle.gm_top.specs.declared.outcomes.Outcome.{Outcome}
 use Rattle.gm_top.specs.declared.outcomes.Outcome.TheVariants as outcome
 use Rattle.gm_top.specs.declared.work.Work.{Work}
-use Rattle.gm_top.specs.declared.work.Work.TheVariants.{Queries, Files}
+use Rattle.gm_top.specs.declared.work.Work.TheVariants.{Queries, Files, Sampled}
 use Rattle.gm_top.specs.Command.{input_of}
 use Rattle.gm_top.specs.Generation.{GenerationValue, CanDraw}
 use Rattle.gm_top.specs.Outcome.{broken_outcome, missing_outcome, stubs_outcome}
@@ -95,6 +96,7 @@ abbrev pub IsDecision : Command → List ℕ → Result Work Outcome → Type 0
 IsDecision Translate bytes decision = decision ≡ text_decision (verdict_of bytes)
 IsDecision (Generate seed) bytes decision =
     (value : Option Data) × IsValueOf bytes value × (decision ≡ files_decision seed value)
+IsDecision (Sample k) bytes decision = decision ≡ Ok (Sampled (record { config = sample_of k; seed = k }))
 
 -- what a command decides where a source has these bytes left
 abbrev pub Decides : Command → Option (List ℕ) → Result Work Outcome → Type 0

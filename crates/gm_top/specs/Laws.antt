@@ -1,9 +1,10 @@
 -- What is true of every command and every input.
 --   Refuses command bytes refusal         a command refuses the bytes so
 --   DefinesFiles command bytes files      these are the files that a command makes of the bytes
---   EveryInputIsDecided                   every input is refused, or defines files
+--   EveryInputIsDecided                   every input of a command that can be asked for is refused, or defines files
 --   DecisionsAreOne                       no input has two decisions
 --   FilesAreOne                           no input defines two lists of files
+--   SamplesAreNeverRefused                no sample is refused
 --   AcceptedInputsAskForFiles             a configuration whose queries can be drawn and that is within the limit is not refused
 use Rattle.std.specs.Prelude.{◌≡◌, ◌⊎◌, ℕ, List, None, Result, Ok, Err}
 use Rattle.serde_json.specs.Data.{Data}
@@ -14,10 +15,11 @@ use Rattle.gm_config.specs.Rules.{rules}
 use Rattle.edge_match.specs.Limit.{IsWithinLimit}
 use Rattle.gm_top.specs.Generation.{CanDraw}
 use Rattle.gm_top.specs.declared.commands.Command.{Command}
-use Rattle.gm_top.specs.declared.commands.Command.TheVariants.{Generate}
+use Rattle.gm_top.specs.declared.commands.Command.TheVariants.{Generate, Sample}
 use Rattle.gm_top.specs.declared.outcomes.Outcome.{Outcome}
 use Rattle.gm_top.specs.declared.work.Work.{Work}
 use Rattle.gm_top.specs.declared.work.Work.TheVariants.{Files}
+use Rattle.gm_top.specs.Command.{CanBeAsked}
 use Rattle.gm_top.specs.Decision.{IsDecision}
 use Rattle.gm_top.specs.Outputs.{outputs_of, AreFilesOf}
 
@@ -29,11 +31,15 @@ Refuses command bytes refusal = IsDecision command bytes (Err refusal)
 abbrev pub DefinesFiles : Command → List ℕ → FileList → Type 0
 DefinesFiles command bytes files = (work : Work) × IsDecision command bytes (Ok work) × AreFilesOf (outputs_of work) files
 
--- every input is refused, or defines files
+-- every input of a command that can be asked for is refused, or defines files
 abbrev pub EveryInputIsDecided : Type 0
-EveryInputIsDecided = (command : Command) (bytes : List ℕ)
+EveryInputIsDecided = (command : Command) → CanBeAsked command → (bytes : List ℕ)
     → ((refusal : Outcome) × Refuses command bytes refusal)
     ⊎ ((files : FileList) × DefinesFiles command bytes files)
+
+-- no sample is refused: its queries can be drawn, and no side has too many stubs
+abbrev pub SamplesAreNeverRefused : Type 0
+SamplesAreNeverRefused = (k : ℕ) (bytes : List ℕ) (refusal : Outcome) → ¬ Refuses (Sample k) bytes refusal
 
 -- no input has two decisions
 abbrev pub DecisionsAreOne : Type 0

@@ -7,3 +7,4 @@ pub mod Outputs
 pub mod Putting
 pub mod Run
 pub mod Laws
+pub mod Together

@@ -14,7 +14,7 @@
 --   MakesPart outputs old new         a folder has gained a part of them
 --   TakesCalls outputs before now     a folder was called as often as these files take
 --   TakesCallsWithin outputs ..       it was called no more often than that
-use Rattle.std.specs.Prelude.{◌≡◌, ◌≤◌, ℕ, ◌+◌, List, [], ◌∷◌, ◌++◌, Option, codes, ⊤}
+use Rattle.std.specs.Prelude.{◌≡◌, ◌≤◌, ℕ, ◌+◌, List, [], ◌∷◌, ◌++◌, length, Option, codes, ⊤}
 use Rattle.gm_io.specs.Count.{raised}
 use Rattle.gm_io.specs.FileList.{FileList, Gained, GainedPart}
 use Rattle.gm_files.specs.Calls.{all_calls}
@@ -29,20 +29,23 @@ use Rattle.edge_match.specs.ConformingGraph.{IsConforming}
 use Rattle.query_terms.specs.Values.{QueryValue}
 use Rattle.query_texts.specs.Texts.{text_of, MeansQuery}
 use Rattle.gm_top.specs.declared.work.Work.{Work}
-use Rattle.gm_top.specs.declared.work.Work.TheVariants.{Queries, Files}
+use Rattle.gm_top.specs.declared.work.Work.TheVariants.{Queries, Files, Sampled}
 use Rattle.workload_text.specs.Lines as lines
 use Rattle.query_draw.specs.Query.{query_of}
 use Rattle.workload_text.specs.Head.{head_of}
 use Rattle.workload_text.specs.Values.{WorkValue, IsWork}
-use Rattle.gm_top.specs.Generation.{IsAcceptedFor}
-use Rattle.gm_top.specs.Workload.{workload_of, HaveClasses}
+use Rattle.gm_top.specs.Generation.{GenerationValue, IsAcceptedFor}
+use Rattle.summary_text.specs.Summary.{summary_text_of, class_total}
+use Rattle.summary_text.specs.Counts.{summary_of, drawn_summary}
+use Rattle.gm_top.specs.Workload.{queries_of, workload_of, HaveClasses, AreBounded}
 
--- a file: the graph or the workload of a configuration and a seed, or the query with a number in a language, where the
--- labels have these names
+-- a file: the graph, the workload or the summary of a configuration and a seed, or the query with a number in a language,
+-- where the labels have these names
 pub data Output : Type 0 where
   graph : ConfigValue → ℕ → Output
   workload : ConfigValue → ℕ → Output
   query_file : QueryFile → List (List ℕ) → ℕ → QueryValue → Output
+  summary : ConfigValue → ℕ → Output
 
 -- a query in SPARQL, and then in SQL
 abbrev pub pair_of : List (List ℕ) → ℕ → QueryValue → List Output
@@ -61,36 +64,51 @@ drawn_outputs config seed number = pair_of (head_of config).labels number (query
 abbrev pub work_outputs : WorkValue → List Output
 work_outputs v = query_outputs v.head.labels 0 v.queries
 
+-- the graph and the workload of a configuration, and the queries of the workload
+abbrev pub files_outputs : GenerationValue → List Output
+files_outputs g = graph g.config g.seed ∷ workload g.config g.seed ∷ work_outputs (workload_of g.config g.seed)
+
 -- the files that a work is to make, in order
 abbrev pub outputs_of : Work → List Output
 outputs_of (Queries v) = work_outputs v
-outputs_of (Files g) = graph g.config g.seed ∷ workload g.config g.seed ∷ work_outputs (workload_of g.config g.seed)
+outputs_of (Files g) = files_outputs g
+outputs_of (Sampled g) = files_outputs g ++ summary g.config g.seed ∷ []
 
--- a work that can be decided: the workload keeps its rules, or nothing of the configuration is refused
+-- a work that can be decided: the workload keeps its rules, or nothing of the configuration is refused; and each query of
+-- a sample has two heads, as in format 1
 abbrev pub IsAccepted : Work → Type 0
 IsAccepted (Queries v) = IsWork v
 IsAccepted (Files g) = IsAcceptedFor g.config g.seed
+IsAccepted (Sampled g) = IsAcceptedFor g.config g.seed × (g.config.workload.format ≡ 1)
 
 -- the name of a file
 abbrev pub name_of : Output → List ℕ
 name_of (graph config seed) = codes "graph.txt"
 name_of (workload config seed) = codes "workload.txt"
 name_of (query_file kind names number q) = query_name_of number kind
+name_of (summary config seed) = codes "summary.txt"
 
--- the bytes of a file: the lines of all edges, the text of the head and of the drawn queries, or the text of a query
+-- the bytes of a file: the lines of all edges, the text of the head and of the drawn queries, the text of a query, or the
+-- numbers of the edges of each constraint and of the queries of each class
 abbrev pub IsTextOf : Output → List ℕ → Type 0
 IsTextOf (graph config seed) text = (edges : List Triple) × AreAllEdges config seed edges × IsReading text edges
 IsTextOf (workload config seed) text = text ≡ lines.work_text (workload_of config seed)
 IsTextOf (query_file kind names number q) text = text ≡ text_of kind names q
+IsTextOf (summary config seed) text =
+    (edges : List Triple) × AreAllEdges config seed edges × (text ≡ summary_text_of (summary_of config edges (queries_of config seed)))
 
 -- What the bytes of a file mean: they read as a list of edges that conforms to the configuration and the seed; they
--- read as the configuration's head with its drawn queries, each of which has the classes of its words; or they have a
--- reading in their language with the rows of the query, over every list of triples.
+-- read as the configuration's head with its drawn queries, each of which has the classes of its words, and is bounded
+-- where its wide class is constant; they have a reading in their language with the rows of the query, over every list of
+-- triples; or they are the smaller totals of the constraints, and numbers of classes that add up to that of the queries.
 abbrev pub Means : Output → List ℕ → Type 0
 Means (graph config seed) text = (edges : List Triple) × IsReading text edges × IsConforming config seed edges
 Means (workload config seed) text =
-    (v : WorkValue) × lines.IsReading text v × (v ≡ workload_of config seed) × HaveClasses config seed v
+    (v : WorkValue) × lines.IsReading text v × (v ≡ workload_of config seed) × HaveClasses config seed v × AreBounded config v
 Means (query_file kind names number q) text = MeansQuery kind names q text
+Means (summary config seed) text =
+    let s = drawn_summary config seed (length config.constraints) (queries_of config seed) in
+    (text ≡ summary_text_of s) × (class_total s ≡ config.workload.queries)
 
 -- at each place a file has the name that it is to have, and its bytes have a property
 abbrev pub AreFiles : (Output → List ℕ → Type 0) → List Output → FileList → Type 0

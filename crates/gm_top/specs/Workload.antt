@@ -5,9 +5,12 @@
 --   all_queries_text config seed        the lines of all of them
 --   HasClasses config seed number g q   the classes of a query with a number are those of its words over a schema
 --   HaveClasses config seed v           so are those of each query of a workload
+--   AreBounded config v                 the queries of constant wide class are bounded over the graphs of a configuration
 use Rattle.std.specs.Prelude.{◌≡◌, ℕ, false, if◌then◌else◌, List, map, Some, None, slice_get}
 use Rattle.std.specs.List.{range_with_len}
 use Rattle.sel_algebra.specs.Entries.{ClassEntryAtMost}
+use Rattle.sel_algebra.specs.declared.vocabulary.Class.TheVariants.{Constant}
+use Rattle.constant_rows.specs.Bounded.{IsBounded}
 use Rattle.schema_graph.specs.Schema.{SchemaValue}
 use Rattle.gm_config.specs.Config.{ConfigValue}
 use Rattle.query_terms.specs.Values.{QueryValue, has_class}
@@ -47,3 +50,9 @@ pub record HasClasses (config : ConfigValue) (seed number : ℕ) (g : SchemaValu
 abbrev pub HaveClasses : ConfigValue → ℕ → WorkValue → Type 0
 HaveClasses config seed v =
     (number : ℕ) (q : QueryValue) → slice_get v.queries number ≡ Some q → HasClasses config seed number v.head.schema q
+
+-- each query of constant wide class has at most F * F rows over each graph of the configuration's types, where its types
+-- with a count have F nodes together, and in these rows such nodes alone
+abbrev pub AreBounded : ConfigValue → WorkValue → Type 0
+AreBounded config v =
+    (number : ℕ) (q : QueryValue) → slice_get v.queries number ≡ Some q → q.wide ≡ Some Constant → IsBounded config q

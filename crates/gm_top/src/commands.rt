@@ -10,10 +10,15 @@ use gm_text::{Decimal, read_decimal};
 pub enum Command {
     /// `translate`: the texts of the queries of a workload.
     Translate,
-    /// `generate SEED`: the graph of a configuration.
+    /// `generate SEED`: the graph and the workload of a configuration, and the texts of its queries.
     Generate {
         /// The seed of all draws.
         seed: u64,
+    },
+    /// `sample K`: the same of the sample of 1,000 times `k` nodes, with the seed `k`, and a summary.
+    Sample {
+        /// From 1 to 100.
+        k: u32,
     },
 }
 
@@ -25,6 +30,10 @@ pub(crate) fn command_of(words: &[String]) -> Option<Command>
         [word] if is_word(word, "translate") => Some(Command::Translate),
         [word, seed] if is_word(word, "generate") => match read_decimal(seed.as_bytes()) {
             Decimal::Value(seed) => Some(Command::Generate { seed }),
+            _ => None,
+        },
+        [word, number] if is_word(word, "sample") => match read_decimal(number.as_bytes()) {
+            Decimal::Value(k) if 1 <= k && k <= 100 => Some(Command::Sample { k: k as u32 }),
             _ => None,
         },
         _ => None,

@@ -1,10 +1,16 @@
 //! What is true of every command and every input: each is a function that does nothing, and ensures it.
 
-ghost use Rattle.gm_top.specs.Laws.{EveryInputIsDecided, DecisionsAreOne, FilesAreOne, AcceptedInputsAskForFiles};
+ghost use Rattle.gm_top.specs.Laws.{EveryInputIsDecided, SamplesAreNeverRefused, DecisionsAreOne, FilesAreOne};
+ghost use Rattle.gm_top.specs.Laws.{AcceptedInputsAskForFiles};
 
-/// Every input is refused, or defines the files that a command makes of it.
+/// Every input of a command is refused, or defines the files that the command makes of it.
 pub fn every_input_is_decided()
     ensures { EveryInputIsDecided }
+{}
+
+/// `sample` refuses nothing.
+pub fn samples_are_never_refused()
+    ensures { SamplesAreNeverRefused }
 {}
 
 /// Nothing else is decided of an input than what is decided of it: one refusal, or one work.

@@ -13,6 +13,7 @@ pub mod laws;
 mod outcomes;
 mod putting;
 mod query_files;
+mod sampling;
 mod top;
 mod translating;
 mod work;

@@ -1,19 +1,20 @@
-ghost use Rattle.std.specs.Prelude.{◌≡◌, ◌≢◌, ◌+◌, ◌≤◌, ◌↔◌, false, Err, IsTrue, IfErr, OnOk, OnErr, IsErrOf};
+ghost use Rattle.std.specs.Prelude.{◌≡◌, ◌≢◌, ◌+◌, ◌≤◌, ◌↔◌, true, false, Err, IsTrue, IfErr, OnOk, OnErr, IsErrOf};
 ghost use Rattle.gm_io.specs.Count.{raised, Rose};
 ghost use Rattle.gm_io.specs.Limit.{input_limit};
-ghost use Rattle.gm_top.specs.Command.{texts, AskForNone};
+ghost use Rattle.gm_top.specs.Command.{texts, AskForNone, CanBeAsked, reads, Reads, input_of};
 ghost use Rattle.gm_top.specs.Outcome.{is_after_reading, is_refusal, is_of_bytes};
 ghost use Rattle.gm_top.specs.Outcome.{is_decision, is_of_input, is_of_writing};
 ghost use Rattle.gm_top.specs.Decision.{Decides};
 ghost use Rattle.gm_top.specs.Outputs.{outputs_of, IsAccepted, MakesFiles, MakesPart, TakesCalls, TakesCallsWithin};
 ghost use Rattle.gm_top.specs.Run.{IsReadWhole, IsTooLong, IsDecided, AnswersInput};
 ghost use Rattle.gm_top.specs.Run.{GainsFiles, GainsPart, GainsPartIfAny, GainsMeaning};
+ghost use Rattle.gm_top.specs.Together.{GainsTogether};
 ghost use Rattle.gm_top.specs.Run.{CallsForFiles, CallsForPart, CallsForPartIfAny};
 
 use crate::commands::{Command, command_of};
 use crate::outcomes::Outcome;
 use crate::work::Work;
-use crate::{generating, translating};
+use crate::{generating, sampling, translating};
 use gm_io::{Folder, Source, read_all};
 use gm_text::Arena;
 use std::alloc::Global;
@@ -21,8 +22,9 @@ use std::alloc::Global;
 /// Runs the program on the words of its command line, a source for its input and a folder for its files.
 ///
 /// `translate` reads a workload text and writes the texts of its queries, `query-0.sparql`, `query-0.sql` and so on.
-/// `generate SEED` reads a configuration and writes `graph.txt`, `workload.txt` and the texts of the queries in it. All
-/// is decided before a file is made. After `WriteFault` and `NoMemory`
+/// `generate SEED` reads a configuration and writes `graph.txt`, `workload.txt` and the texts of the queries in it.
+/// `sample K` reads nothing: it writes the same of the sample of 1,000 times K nodes, and `summary.txt`. All is decided
+/// before a file is made. After `WriteFault` and `NoMemory`
 /// a file may be unfinished: then a call of `finish` comes before a further run on that folder.
 pub fn run<S: Source, F: Folder>(
     alloc: Global,
@@ -32,9 +34,9 @@ pub fn run<S: Source, F: Folder>(
 ) -> Outcome
     requires { F.unfinished folder.old ≡ false }
 
-    // The words. Where they ask for no command, nothing is read.
+    // The words. Where they ask for no command, and for a sample, nothing is read.
     ensures usage { (result ≡ Outcome.Usage) ↔ AskForNone (texts words.now) }
-    ensures usage_reads_nothing { result ≡ Outcome.Usage → source.new ≡ source.old }
+    ensures reads_nothing { ¬ Reads (texts words.now) → source.new ≡ source.old }
 
     // Reading. A byte past the limit is given exactly before `InputTooLong`.
     ensures read_fault { result ≡ Outcome.ReadFault → Rose (S.faults source.old) (S.faults source.new) }
@@ -43,7 +45,8 @@ pub fn run<S: Source, F: Folder>(
     ensures too_long_told { result ≡ Outcome.InputTooLong → IsTooLong (S.left source.old) }
     ensures within { result ≢ Outcome.InputTooLong → result ≢ Outcome.NoMemory
         → S.given source.new ≤ raised (S.given source.old) input_limit }
-    ensures read_whole { IsTrue (is_after_reading result) → IsReadWhole (S.left source.old) (S.left source.new) }
+    ensures read_whole { IsTrue (is_after_reading result) → Reads (texts words.now)
+        → IsReadWhole (S.left source.old) (S.left source.new) }
 
     // What is refused of the input: `Config`, `BadWorkload`, `NoSuchQuery` and `TooManyStubs`, each by its cause.
     ensures refused { IsTrue (is_of_bytes result) → IsDecided (texts words.now) (S.left source.old) (Err result) }
@@ -54,6 +57,8 @@ pub fn run<S: Source, F: Folder>(
         → GainsFiles (texts words.now) (S.left source.old) (F.files folder.old) (F.files folder.new) }
     ensures meaning { result ≡ Outcome.Done
         → GainsMeaning (texts words.now) (S.left source.old) (F.files folder.old) (F.files folder.new) }
+    ensures together { result ≡ Outcome.Done
+        → GainsTogether (texts words.now) (S.left source.old) (F.files folder.old) (F.files folder.new) }
     ensures write_fault { result ≡ Outcome.WriteFault → Rose (F.faults folder.old) (F.faults folder.new) }
     ensures write_fault_part { result ≡ Outcome.WriteFault
         → GainsPart (texts words.now) (S.left source.old) (F.files folder.old) (F.files folder.new) }
@@ -99,21 +104,24 @@ fn decided<'a, S: Source>(
     source: &mut S,
     arena: &'a Arena,
 ) -> Result<Work<'a>, Outcome>
+    requires asked { CanBeAsked command }
     ensures decision { IsTrue (is_decision result) → Decides command (S.left source.old) result }
+    ensures reads_nothing { reads command ≡ false → source.new ≡ source.old }
     ensures of_input { IfErr result (λ outcome. IsTrue (is_of_input outcome)) }
     ensures read_fault { IsErrOf result Outcome.ReadFault → Rose (S.faults source.old) (S.faults source.new) }
     ensures too_long { IsErrOf result Outcome.InputTooLong
         → raised (S.given source.old) (input_limit + 1) ≤ S.given source.new }
-    ensures too_long_told { IsErrOf result Outcome.InputTooLong → IsTooLong (S.left source.old) }
+    ensures too_long_told { IsErrOf result Outcome.InputTooLong → IsTooLong (input_of command (S.left source.old)) }
     ensures within { ¬ IsErrOf result Outcome.InputTooLong → ¬ IsErrOf result Outcome.NoMemory
         → S.given source.new ≤ raised (S.given source.old) input_limit }
-    ensures read_whole { IsTrue (is_decision result) → IsReadWhole (S.left source.old) (S.left source.new) }
+    ensures read_whole { IsTrue (is_decision result) → reads command ≡ true
+        → IsReadWhole (S.left source.old) (S.left source.new) }
     ensures faults { ¬ IsErrOf result Outcome.ReadFault → S.faults source.new ≡ S.faults source.old }
 {
-    let bytes = read_all(alloc, source)?;
     match command {
-        Command::Translate => translating::decided(alloc, &bytes, arena),
-        Command::Generate { seed } => generating::decided(alloc, seed, &bytes),
+        Command::Translate => translating::decided(alloc, &read_all(alloc, source)?, arena),
+        Command::Generate { seed } => generating::decided(alloc, seed, &read_all(alloc, source)?),
+        Command::Sample { k } => sampling::decided(alloc, k),
     }
 }
 
@@ -133,5 +141,6 @@ fn written<F: Folder>(alloc: Global, work: &Work<'_>, folder: &mut F) -> Result<
     match work {
         Work::Queries(work) => translating::written(alloc, work, folder),
         Work::Files(generation) => generating::written(alloc, generation, folder),
+        Work::Sampled(generation) => sampling::written(alloc, generation, folder),
     }
 }

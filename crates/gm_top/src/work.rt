@@ -10,4 +10,6 @@ pub enum Work<'a> {
     Queries(Workload<'a>),
     /// The files of a configuration, each of whose queries can be drawn and none of whose sides has too many stubs.
     Files(Generation),
+    /// The same of the sample, and a summary of them.
+    Sampled(Generation),
 }

@@ -1,0 +1,193 @@
+//! `sample`: the files of the sample, and a summary of them.
+
+ghost use Rattle.std.specs.Prelude.{◌≡◌, ◌≢◌, ◌<◌, ◌≤◌, ◌^◌, [], ◌∷◌, true, false, length, Err, IfOk, IfErr, OnOk, OnErr, IsErrOf, IsTrue};
+ghost use Rattle.gm_io.specs.Count.{Rose};
+ghost use Rattle.gm_config.specs.Config.{IsConfig};
+ghost use Rattle.edge_match.specs.Limit.{IsWithinLimit};
+ghost use Rattle.summary_text.specs.Summary.{HasRoom, summary_text_of};
+ghost use Rattle.summary_text.specs.Counts.{drawn_summary};
+ghost use Rattle.summary_text.specs.Laws.{with_class_of};
+ghost use Rattle.query_draw.specs.Query.{has_query, query_of};
+ghost use Rattle.gm_top.specs.declared.commands.Command.TheVariants.{Sample};
+ghost use Rattle.gm_top.specs.declared.work.Work.TheVariants.{Sampled};
+ghost use Rattle.gm_top.specs.Generation.{CanDraw, IsAcceptedFor};
+ghost use Rattle.gm_top.specs.Outcome.{is_of_writing};
+ghost use Rattle.gm_top.specs.Decision.{IsDecision};
+ghost use Rattle.gm_top.specs.Outputs.{outputs_of, summary, MakesFiles, MakesPart, TakesCalls, TakesCallsWithin};
+ghost use Rattle.gm_top.specs.Workload.{queries_of};
+
+use crate::generating;
+use crate::generation::Generation;
+use crate::outcomes::Outcome;
+use crate::work::Work;
+use crate::workload_file::emptied;
+use edge_match::EdgeStream;
+use gm_config::{Config, sample_config};
+use gm_files::put_file;
+use gm_io::Folder;
+use gm_text::Arena;
+use std::alloc::Global;
+use summary_text::{Summary, write_summary};
+
+/// The work of the sample of 1,000 times `k` nodes. It makes no file, and only memory can be wanting.
+pub(crate) fn decided<'a>(alloc: Global, k: u32) -> Result<Work<'a>, Outcome>
+    requires some { 1 ≤ k }
+    requires few { k ≤ 100 }
+    ensures decision { result ≢ Err Outcome.NoMemory → IsDecision (Sample k) [] result }
+    ensures stops { IfErr result (λ outcome. outcome ≡ Outcome.NoMemory) }
+{
+    let config = sample_config(alloc, k)?;
+    let generation = Generation::new(alloc, config, u64::from(k))?;
+    Ok(Work::Sampled(generation))
+}
+
+/// Writes the files of a sample, and then its summary.
+pub(crate) fn written<F: Folder>(
+    alloc: Global,
+    generation: &Generation,
+    folder: &mut F,
+) -> Result<(), Outcome>
+    requires accepted { IsAcceptedFor generation.now.config generation.now.seed }
+    requires finished { F.unfinished folder.old ≡ false }
+    ensures files { OnOk result (MakesFiles (outputs_of (Sampled generation.now)) (F.files folder.old) (F.files folder.new)) }
+    ensures finished { OnOk result (F.unfinished folder.new ≡ false) }
+    ensures part { OnErr result (MakesPart (outputs_of (Sampled generation.now)) (F.files folder.old) (F.files folder.new)) }
+    ensures calls { OnOk result (TakesCalls (outputs_of (Sampled generation.now)) (F.calls folder.old) (F.calls folder.new)) }
+    ensures part_calls { OnErr result
+        (TakesCallsWithin (outputs_of (Sampled generation.now)) (F.calls folder.old) (F.calls folder.new)) }
+    ensures stops { IfErr result (λ outcome. IsTrue (is_of_writing outcome)) }
+    ensures fault { IsErrOf result Outcome.WriteFault → Rose (F.faults folder.old) (F.faults folder.new) }
+    ensures faults { ¬ IsErrOf result Outcome.WriteFault → F.faults folder.new ≡ F.faults folder.old }
+{
+    generating::written(alloc, generation, folder)?;
+    put_summary(alloc, generation, folder)?;
+    Ok(())
+}
+
+/// Writes the file of the summary.
+fn put_summary<F: Folder>(
+    alloc: Global,
+    generation: &Generation,
+    folder: &mut F,
+) -> Result<(), Outcome>
+    requires accepted { IsAcceptedFor generation.now.config generation.now.seed }
+    requires finished { F.unfinished folder.old ≡ false }
+    ensures files { OnOk result (MakesFiles (summary generation.now.config generation.now.seed ∷ [])
+        (F.files folder.old) (F.files folder.new)) }
+    ensures finished { OnOk result (F.unfinished folder.new ≡ false) }
+    ensures part { OnErr result (MakesPart (summary generation.now.config generation.now.seed ∷ [])
+        (F.files folder.old) (F.files folder.new)) }
+    ensures calls { OnOk result (TakesCalls (summary generation.now.config generation.now.seed ∷ [])
+        (F.calls folder.old) (F.calls folder.new)) }
+    ensures part_calls { OnErr result (TakesCallsWithin (summary generation.now.config generation.now.seed ∷ [])
+        (F.calls folder.old) (F.calls folder.new)) }
+    ensures stops { IfErr result (λ outcome. IsTrue (is_of_writing outcome)) }
+    ensures fault { IsErrOf result Outcome.WriteFault → Rose (F.faults folder.old) (F.faults folder.new) }
+    ensures faults { ¬ IsErrOf result Outcome.WriteFault → F.faults folder.new ≡ F.faults folder.old }
+{
+    let text = summary_text(alloc, generation)?;
+    put_file(folder, "summary.txt", &text)?;
+    Ok(())
+}
+
+/// The text of the summary.
+fn summary_text(alloc: Global, generation: &Generation) -> Result<Vec<u8>, Outcome>
+    requires accepted { IsAcceptedFor generation.now.config generation.now.seed }
+    ensures text { IfOk result (λ text. text.items ≡ summary_text_of (drawn_summary generation.now.config generation.now.seed
+        (length generation.now.config.constraints) (queries_of generation.now.config generation.now.seed))) }
+    ensures stops { IfErr result (λ outcome. outcome ≡ Outcome.NoMemory) }
+{
+    let counted = counted(alloc, generation)?;
+    let mut text = Vec::new(alloc);
+    write_summary(alloc, &mut text, &counted)?;
+    Ok(text)
+}
+
+/// Counts the edges of each constraint, and the queries of each class.
+fn counted(alloc: Global, generation: &Generation) -> Result<Summary, Outcome>
+    requires accepted { IsAcceptedFor generation.now.config generation.now.seed }
+    ensures counted { IfOk result (λ counted. counted ≡ drawn_summary generation.now.config generation.now.seed
+        (length generation.now.config.constraints) (queries_of generation.now.config generation.now.seed)) }
+    ensures stops { IfErr result (λ outcome. outcome ≡ Outcome.NoMemory) }
+{
+    let mut counted = Summary::new(alloc);
+    count_constraints(alloc, generation.config(), generation.seed(), &mut counted)?;
+    count_queries(alloc, generation, &mut counted)?;
+    Ok(counted)
+}
+
+/// Counts the edges of each constraint.
+fn count_constraints(
+    alloc: Global,
+    config: &Config,
+    seed: u64,
+    counted: &mut Summary,
+) -> Result<(), Outcome>
+    requires rules { IsConfig config.now }
+    requires within { IsWithinLimit config.now seed }
+    requires nothing { counted.old ≡ drawn_summary config.now seed 0 [] }
+    ensures counted { OnOk result (counted.new ≡ drawn_summary config.now seed (length config.now.constraints) []) }
+    ensures stops { IfErr result (λ outcome. outcome ≡ Outcome.NoMemory) }
+{
+    for c in 0..config.constraint_count() {
+        let edges = EdgeStream::new(alloc, config, seed, c)?;
+        counted.add_constraint(alloc, edge_count(edges))?;
+    }
+    Ok(())
+}
+
+/// The number of edges that are still to come.
+fn edge_count(mut edges: EdgeStream) -> u64
+    requires few { length edges < 2 ^ 64 }
+    ensures { result ≡ length edges }
+{
+    let mut count = 0;
+    while let Some(_) = edges.next_edge() {
+        count += 1;
+    }
+    count
+}
+
+/// Counts the drawn queries of each class.
+fn count_queries(
+    alloc: Global,
+    generation: &Generation,
+    counted: &mut Summary,
+) -> Result<(), Outcome>
+    requires rules { IsConfig generation.now.config }
+    requires drawable { CanDraw generation.now.config generation.now.seed }
+    requires constraints { counted.old ≡ drawn_summary generation.now.config generation.now.seed
+        (length generation.now.config.constraints) [] }
+    ensures counted { OnOk result (counted.new ≡ drawn_summary generation.now.config generation.now.seed
+        (length generation.now.config.constraints) (queries_of generation.now.config generation.now.seed)) }
+    ensures stops { IfErr result (λ outcome. outcome ≡ Outcome.NoMemory) }
+{
+    let mut arena = Arena::new(alloc);
+    for number in 0..generation.query_count() {
+        count_query(alloc, generation, number, &arena, counted)?;
+        arena = emptied(alloc, arena);
+    }
+    Ok(())
+}
+
+/// Counts the drawn query with a number, for its class.
+fn count_query(
+    alloc: Global,
+    generation: &Generation,
+    number: u32,
+    arena: &Arena,
+    counted: &mut Summary,
+) -> Result<(), Outcome>
+    requires within { number < generation.now.config.workload.queries }
+    requires drawable { has_query generation.now.config generation.now.seed number ≡ true }
+    requires room { HasRoom counted.old }
+    ensures counted { OnOk result
+        (counted.new ≡ with_class_of (query_of generation.now.config generation.now.seed number).class counted.old) }
+    ensures stops { IfErr result (λ outcome. outcome ≡ Outcome.NoMemory) }
+{
+    let query = generation.query(alloc, number, arena)?;
+    if let Some(class) = query.class {
+        counted.add_class(class);
+    }
+    Ok(())
+}
