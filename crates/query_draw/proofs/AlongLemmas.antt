@@ -24,7 +24,7 @@ use Rattle.schema_graph.proofs.SymbolLemmas.{symbols_of-edge, symbols_of-start}
 use Rattle.sel_graph.proofs.SymbolLemmas.{first_symbols-contain}
 use Rattle.query_draw.specs.declared.sparse.Place.{Place}
 use Rattle.query_draw.specs.Drawn.{no_symbol}
-use Rattle.query_draw.specs.Sparse.{place_in, IsPlace, Lie, Lists, AreNone, CellsAtMost, Joins, AllBelow, EqualBelow, HasPath, StepsBy, GoesOn}
+use Rattle.query_draw.specs.Sparse.{no_place, place_in, IsPlace, Lie, Lists, AreNone, CellsAtMost, Joins, AllBelow, EqualBelow, HasPath, StepsBy, GoesOn}
 use Rattle.query_draw.proofs.SparseLemmas.{CellsAtMost-antisym, AreNone-least, Stays, Stays-HasAt}
 use Rattle.query_draw.proofs.WideLemmas.{symbol_edge, symbol_entry, times-at_least, one-least}
 
@@ -102,12 +102,12 @@ symbol_of g back e in_all =
 -- the paths of the q-th listed entry of a matrix, and then along a label
 abbrev pub GoesFrom : SchemaValue → ℕ → Bool → List (Option Op) → List Place → ℕ → List (Option Op) → Type 0
 GoesFrom g label back cells places q =
-    let at = slice_index_or places q (record { from = 0; to = 0 }) in
+    let at = slice_index_or places q no_place in
     GoesOn g label back at (slice_index_or cells (place_in (length g.kinds) at) None)
 
 pub Stays-GoesFrom : (g : SchemaValue) (label : ℕ) (back : Bool) (cells : List (Option Op)) (places : List Place) (q : ℕ) → Stays (GoesFrom g label back cells places q)
 Stays-GoesFrom g label back cells places q =
-    let at = slice_index_or places q (record { from = 0; to = 0 }) in
+    let at = slice_index_or places q no_place in
     Stays-GoesOn g label back at (slice_index_or cells (place_in (length g.kinds) at) None)
 
 steps_least : (g : SchemaValue) → IsSchema g → (label : ℕ) (back : Bool) (a : Table) → a.kinds ≡ g.kinds → (at : Place) → IsPlace (length g.kinds) at → (op : Op) → entry a at.from at.to ≡ Some op
@@ -145,7 +145,7 @@ path_there g label back cells new places lists goes i k j p r op o here in_all =
     let at : Place = record { from = i; to = k } in
     let (q, within, at_q) = at_from_Contains places at (lists at (record { from = p; to = r }) (λ none. let e = sym here ∙ none in cc)) in
     let on : GoesOn g label back at (slice_index_or cells (place_in n at) None) new =
-    subst (λ x. GoesOn g label back x (slice_index_or cells (place_in n x) None) new) (at_q (record { from = 0; to = 0 })) (goes q within) in
+    subst (λ x. GoesOn g label back x (slice_index_or cells (place_in n x) None) new) (at_q no_place) (goes q within) in
     let steps : GoesOn g label back at (Some op) new = subst (λ x. GoesOn g label back at x new) here on in
     let (edge, known, taken_is) = symbol_of g back (record { source = k; label = label; target = j; op = o }) in_all in
     let s : Symbol = record { edge = edge; back = back } in
@@ -173,7 +173,7 @@ product_is g is label back cells old new places lie lists none whole joins =
     let product = times_of a m in
     same_table g.kinds (product_at a m) new whole
     (joins.least product.cells (AreNone-least old product.cells none) (λ q lt.
-    let at = slice_index_or places q (record { from = 0; to = 0 }) in
-    goes_least g is label back cells at (lie at (Contains-get_or places q (record { from = 0; to = 0 }) lt)) (slice_index_or cells (place_in n at) None) refl))
+    let at = slice_index_or places q no_place in
+    goes_least g is label back cells at (lie at (Contains-get_or places q no_place lt)) (slice_index_or cells (place_in n at) None) refl))
     (cells_least g.kinds (product_at a m) new (λ i j p q. join_below-most n (through a m i j) (slice_index_or new (i * n + j) None) (λ k r.
     paths_there g is label back cells new places lists joins.met i k j p r q (entry a i k) (entry m k j) refl refl)))

@@ -12,7 +12,7 @@ use Rattle.sel_algebra.specs.Entries.{joined, EntryAtMost}
 use Rattle.sel_algebra.proofs.EntryLemmas.{EntryAtMost-refl, EntryAtMost-trans, EntryAtMost-antisym, EntryAtMost-joined_left, EntryAtMost-joined_right, joined-EntryAtMost}
 use Rattle.sel_algebra.proofs.TableLemmas.{row-lt, column-lt}
 use Rattle.query_draw.specs.declared.sparse.Place.{Place}
-use Rattle.query_draw.specs.Sparse.{place_in, IsPlace, Lie, Lists, AreNone, CellsAtMost, Joins, AllBelow, HasAt}
+use Rattle.query_draw.specs.Sparse.{no_place, place_in, IsPlace, Lie, Lists, AreNone, CellsAtMost, Joins, AllBelow, HasAt}
 
 -- ---- places
 
@@ -59,10 +59,10 @@ pub some_is_there : (x : Option Op) → is_some x ≡ true → x ≢ None
 some_is_there x is none = let e = rw none at is in cc
 
 -- a place of the list is one of the matrix
-pub nth_lies : (n : ℕ) (items places : List Place) (i : ℕ) → items ≡ places → Lie n places → i < length items → IsPlace n (slice_index_or items i (record { from = 0; to = 0 }))
+pub nth_lies : (n : ℕ) (items places : List Place) (i : ℕ) → items ≡ places → Lie n places → i < length items → IsPlace n (slice_index_or items i no_place)
 nth_lies n items places i same lie lt =
-    let at = slice_index_or items i (record { from = 0; to = 0 }) in
-    lie at (subst (λ ps. Contains ps at) same (Contains-get_or items i (record { from = 0; to = 0 }) lt))
+    let at = slice_index_or items i no_place in
+    lie at (subst (λ ps. Contains ps at) same (Contains-get_or items i no_place lt))
 
 -- ---- entries that are taken away
 

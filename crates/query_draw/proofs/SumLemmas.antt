@@ -13,7 +13,7 @@ use Rattle.sel_algebra.specs.Table.{Table, kind_at, entry, laid_out, table_of, I
 use Rattle.sel_algebra.proofs.EntryLemmas.{EntryAtMost-trans, EntryAtMost-joined_left, EntryAtMost-joined_right, joined-EntryAtMost, IsNormalEntry-joined}
 use Rattle.sel_algebra.proofs.TableLemmas.{row-lt, column-lt, entry-plus_of}
 use Rattle.query_draw.specs.declared.sparse.Place.{Place}
-use Rattle.query_draw.specs.Sparse.{place_in, IsPlace, Lie, Lists, CellsAtMost, Joins, AllBelow, HasAt, HasEntry}
+use Rattle.query_draw.specs.Sparse.{no_place, place_in, IsPlace, Lie, Lists, CellsAtMost, Joins, AllBelow, HasAt, HasEntry}
 use Rattle.query_draw.proofs.SparseLemmas.{place_lt, CellsAtMost-refl, Stays, Joins-set}
 use Rattle.query_draw.proofs.AlongLemmas.{cells_least, same_table}
 
@@ -68,12 +68,12 @@ Joins-entry old new at op v matrix more is normal joins sets =
 -- the q-th listed entry of a matrix
 abbrev pub HasListed : ℕ → List (Option Op) → List Place → ℕ → List (Option Op) → Type 0
 HasListed n cells places q =
-    let at = slice_index_or places q (record { from = 0; to = 0 }) in
+    let at = slice_index_or places q no_place in
     HasEntry n at (slice_index_or cells (place_in n at) None)
 
 pub Stays-HasListed : (n : ℕ) (cells : List (Option Op)) (places : List Place) (q : ℕ) → Stays (HasListed n cells places q)
 Stays-HasListed n cells places q xs ys le has =
-    let at = slice_index_or places q (record { from = 0; to = 0 }) in
+    let at = slice_index_or places q no_place in
     EntryAtMost-trans (slice_index_or cells (place_in n at) None) (slice_index_or xs (place_in n at) None) (slice_index_or ys (place_in n at) None) has (le (place_in n at))
 
 cells_most : (kinds : List Kind) (f : ℕ → ℕ → Option Op) (old : List (Option Op)) → length old ≡ length kinds * length kinds
@@ -93,7 +93,7 @@ entry_there n cells new places lists has i j p r (Some op) here =
     let at : Place = record { from = i; to = j } in
     let (q, within, at_q) = at_from_Contains places at (lists at (record { from = p; to = r }) (λ none. let e = sym here ∙ none in cc)) in
     subst (λ x. EntryAtMost x (slice_index_or new (i * n + j) None)) here
-    (subst (λ x. HasEntry n x (slice_index_or cells (place_in n x) None) new) (at_q (record { from = 0; to = 0 })) (has q within))
+    (subst (λ x. HasEntry n x (slice_index_or cells (place_in n x) None) new) (at_q no_place) (has q within))
 
 -- what joins all listed entries is the join
 pub sum_is : (old new : Table) (cells : List (Option Op)) (places : List Place) → IsMatrix old → IsMatrix new → new.kinds ≡ old.kinds → Lie (length old.kinds) places → Lists (length old.kinds) cells places
@@ -105,8 +105,8 @@ sum_is old new cells places matrix more kinds lie lists joins =
     let below = joins.least sum.cells
     (cells_most old.kinds (sum_at old b) old.cells matrix.whole (λ i j p q. subst (EntryAtMost (entry old i j)) (sym (entry-plus_of old b i j p q)) (EntryAtMost-joined_left (entry old i j) (entry b i j))))
     (λ q lt.
-    let at = slice_index_or places q (record { from = 0; to = 0 }) in
-    let is = lie at (Contains-get_or places q (record { from = 0; to = 0 }) lt) in
+    let at = slice_index_or places q no_place in
+    let is = lie at (Contains-get_or places q no_place lt) in
     subst (EntryAtMost (entry b at.from at.to)) (sym (entry-plus_of old b at.from at.to is.from is.to)) (EntryAtMost-joined_right (entry old at.from at.to) (entry b at.from at.to))) in
     let above = cells_least old.kinds (sum_at old b) new.cells (λ i j p q. joined-EntryAtMost (entry old i j) (entry b i j) (slice_index_or new.cells (i * n + j) None) (joins.above (i * n + j))
     (entry_there n cells new.cells places lists joins.met i j p q (entry b i j) refl)) in

@@ -1,4 +1,5 @@
 -- Matrices whose entries are listed, and what is joined with their entries.
+--   no_place                   what stands past the end of a list of places
 --   place_in n at              where an entry stands, row by row
 --   IsPlace n at               a place of a matrix over n types
 --   Lie, Lists                 the places of a list are such, and all entries are at them
@@ -27,6 +28,10 @@ use Rattle.schema_graph.specs.Symbols.{symbols_of}
 use Rattle.query_draw.specs.declared.sparse.Place.{Place}
 use Rattle.query_draw.specs.declared.sparse.Sparse.{Sparse}
 use Rattle.query_draw.specs.Drawn.{no_symbol}
+
+-- what stands past the end of a list of places
+abbrev pub no_place : Place
+no_place = record { from = 0; to = 0 }
 
 -- where an entry stands among the entries, row by row
 abbrev pub place_in : ℕ → Place → ℕ

@@ -2,7 +2,7 @@ use Rattle.std.proofs.Common.{◌≡◌, length, slice_index_or, None, ap, sym, 
 use Rattle.sel_algebra.specs.Table.{laid_out, times_of}
 use Rattle.schema_graph.specs.Labelled.{matrix_of}
 use Rattle.query_draw.specs.declared.sparse.Place.{Place}
-use Rattle.query_draw.specs.Sparse.{place_in, IsPlace, Joins, AllBelow, GoesOn}
+use Rattle.query_draw.specs.Sparse.{no_place, place_in, IsPlace, Joins, AllBelow, GoesOn}
 use Rattle.query_draw.proofs.SparseLemmas.{nth_lies, Joins-none, Joins-more}
 use Rattle.query_draw.proofs.AlongLemmas.{GoesFrom, Stays-GoesFrom, product_is}
 use Rattle.query_draw.proofs.along.follow_symbol.Goals as goal
@@ -18,7 +18,7 @@ loop-at-init c =
 pub entry_at-entry-requires-clause-at : goal.entry_at-entry-requires-clause-at
 entry_at-entry-requires-clause-at c =
     let items = c.deref-at-items.result.now in
-    subst (λ n. IsPlace n (slice_index_or items c.loop-at.at-index (record { from = 0; to = 0 }))) (sym c.kind_count-count.ensures.count)
+    subst (λ n. IsPlace n (slice_index_or items c.loop-at.at-index no_place)) (sym c.kind_count-count.ensures.count)
     (nth_lies (length c.args.schema.now.kinds) items c.args.matrix.now.places.items c.loop-at.at-index c.deref-at-items.ensures.value c.requires.matrix.within c.loop-at-test.true)
 
 pub go_on-requires-clause-at : goal.go_on-requires-clause-at
@@ -32,7 +32,7 @@ loop-at-preserved c =
     let label = c.label_of-label.result in
     let back = c.args.symbol.back in
     let i = c.loop-at.at-index in
-    let at : Place = slice_index_or c.deref-at-items.result.now i (record { from = 0; to = 0 }) in
+    let at : Place = slice_index_or c.deref-at-items.result.now i no_place in
     let entry = c.entry_at-entry.ensures ∙ ap (λ n. slice_index_or m.cells.items (place_in n at) None) c.kind_count-count.ensures.count in
     let here = subst (λ x. Joins (GoesOn g label back at x) c.loop-at.product.cells.items c.go_on.new.product.cells.items) entry c.in_ok-go_on.ensures.joins in
     record {
