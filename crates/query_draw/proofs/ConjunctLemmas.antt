@@ -1,7 +1,7 @@
 -- The conjuncts of a rule, put into a query one after another.
-use Rattle.std.proofs.Common.{◌≡◌, ℕ, zero, suc, ◌+◌, ◌-◌, ◌<◌, ◌≤◌, Bool, true, false, List, [], ◌∷◌, ◌++◌, length, map, take, slice_index_or, refl, sym, ap, subst, ◌∙◌, arith}
+use Rattle.std.proofs.Common.{◌≡◌, ℕ, suc, ◌+◌, ◌<◌, ◌≤◌, true, List, [], ◌∷◌, ◌++◌, length, map, take, slice_index_or, sym, ap, ◌∙◌, arith}
 use Rattle.std.specs.List.{range_with_len, list_all}
-use Rattle.std.proofs.lemmas.List.{append_assoc, append-nil, length-append, take_more, length-take-le}
+use Rattle.std.proofs.lemmas.List.{append_assoc, take_more, length-take-le}
 use Rattle.sel_algebra.specs.declared.vocabulary.Class.{Class}
 use Rattle.sel_algebra.specs.declared.vocabulary.Shape.{Shape}
 use Rattle.gm_config.specs.declared.workload_rules.Workload.{Workload}
@@ -14,7 +14,7 @@ use Rattle.query_draw.specs.Laws.{ends_in}
 use Rattle.query_draw.specs.Query.{heads_of}
 use Rattle.query_draw.specs.Drawn.{Words, drawn_conjunct, drawn_conjuncts, rule_legs}
 use Rattle.query_draw.proofs.RuleLemmas.{length-rule_legs, length-drawn_conjuncts, ends_from}
-use Rattle.query_draw.proofs.HeadLemmas.{AreHeads, heads_are, heads_occur}
+use Rattle.query_draw.proofs.HeadLemmas.{heads_are, heads_occur}
 
 -- the conjuncts of legs, with one more
 conjuncts_snoc : (r : ReachValue) (w : Workload) (d : Words) (shape : Shape) (k i j : ℕ) (legs : List Leg) (leg : Leg) → j ≡ i + length legs

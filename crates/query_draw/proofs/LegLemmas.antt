@@ -1,5 +1,5 @@
 -- The words of a drawn leg are walks with its move's value, and drawn legs lead on to the goal.
-use Rattle.std.proofs.Common.{◌≡◌, ◌≢◌, ℕ, zero, suc, ◌+◌, ◌-◌, ◌*◌, ◌^◌, ◌<◌, ◌≤◌, ◌==◌, Bool, true, false, not, ◌&&◌, ◌||◌, if◌then◌else◌, Option, Some, None, List, [], ◌∷◌, ◌++◌, length, map, take, refl, sym, ap, subst, ◌∙◌, arith}
+use Rattle.std.proofs.Common.{◌≡◌, ◌≢◌, ℕ, zero, suc, ◌+◌, ◌^◌, ◌<◌, ◌≤◌, true, if◌then◌else◌, Some, List, [], ◌∷◌, length, map, refl, sym, ap, subst, ◌∙◌, arith}
 use Rattle.std.specs.List.{All, range_with_len}
 use Rattle.std.proofs.lemmas.Bool.{and_parts}
 use Rattle.std.proofs.lemmas.Option.{get_or_from_slice_get}
@@ -15,28 +15,27 @@ use Rattle.sel_algebra.specs.declared.vocabulary.Symbol.{Symbol}
 use Rattle.sel_algebra.specs.Operators.{join_of, star_of, typed_composition}
 use Rattle.sel_algebra.specs.Table.{kind_at}
 use Rattle.gm_config.specs.declared.workload_rules.Workload.{Workload}
-use Rattle.schema_graph.specs.Edge.{start_of, end_of}
 use Rattle.schema_graph.specs.Schema.{SchemaValue}
 use Rattle.sel_graph.specs.declared.states.State.{State}
 use Rattle.sel_graph.specs.declared.states.Move.{Move}
 use Rattle.sel_graph.specs.declared.states.Goal.{Goal}
 use Rattle.sel_graph.specs.States.{begun, came_to, carried}
 use Rattle.sel_graph.specs.Runs.{Runs}
-use Rattle.sel_graph.specs.Walks.{CarriesBySymbol, HasWalk}
+use Rattle.sel_graph.specs.Walks.{CarriesBySymbol}
 use Rattle.sel_graph.specs.Values.{value_of}
-use Rattle.sel_graph.specs.Moves.{ReachValue, IsReach, IsMove, effect, moved}
+use Rattle.sel_graph.specs.Moves.{ReachValue, IsReach, effect, moved}
 use Rattle.sel_graph.specs.Numbers.{all_moves}
 use Rattle.sel_graph.specs.Tests.{can_walk, is_move, move_on, feasible, meets}
 use Rattle.sel_graph.proofs.RunLemmas.{can_run-none}
 use Rattle.sel_graph.proofs.WalkLemmas.{walk_agrees}
 use Rattle.sel_graph.proofs.MoveLemmas.{move_agrees}
 use Rattle.sel_graph.proofs.ValueLemmas.{walks_have_values}
-use Rattle.walk_pick.specs.Candidates.{keeps_goal, move_candidates, has_length, length_candidates, symbol_candidates}
+use Rattle.walk_pick.specs.Candidates.{move_candidates, has_length, length_candidates, symbol_candidates}
 use Rattle.walk_pick.proofs.LawLemmas.{moves_never_run_out, lengths_never_run_out, symbols_never_run_out}
 use Rattle.query_terms.specs.Values.{ConjunctValue}
 use Rattle.query_draw.specs.declared.legs.Leg.{Leg}
-use Rattle.query_draw.specs.Drawn.{Words, words_for, picked_or, drawn_from, conjunct_place, word_place, symbol_place, wants_star, no_move, spine_move, spine_legs, no_symbol, drawn_symbol, drawn_symbols, drawn_length, drawn_word, word_count, drawn_words, drawn_conjunct, drawn_conjuncts}
-use Rattle.query_draw.specs.Values.{Leads, LeadsWord, LeadsConjunct, LeadsSpine, word_start, word_end, first_word, word_value, union_value, conjunct_value, composed_along}
+use Rattle.query_draw.specs.Drawn.{Words, words_for, picked_or, conjunct_place, word_place, symbol_place, wants_star, no_move, spine_move, spine_legs, no_symbol, drawn_symbol, drawn_symbols, drawn_length, drawn_word, word_count, drawn_words, drawn_conjunct, drawn_conjuncts}
+use Rattle.query_draw.specs.Values.{Leads, LeadsWord, LeadsConjunct, LeadsSpine, word_value, union_value, conjunct_value, composed_along}
 use Rattle.query_draw.specs.Laws.{IsWordOf, DrawnWordsAreWalks}
 use Rattle.query_draw.proofs.WideLemmas.{LeadsWord-start, LeadsConjunct-end}
 

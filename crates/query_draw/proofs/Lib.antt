@@ -7,5 +7,8 @@ pub mod PathLemmas
 pub mod HeadLemmas
 pub mod ConjunctLemmas
 pub mod QueryLemmas
+pub mod SparseLemmas
+pub mod AlongLemmas
+pub mod SumLemmas
 pub mod MatrixLemmas
 pub mod LedLemmas

@@ -1,5 +1,5 @@
 -- The matrices of a query's words and conjuncts, one after another.
-use Rattle.std.proofs.Common.{◌≡◌, ℕ, zero, suc, ◌+◌, ◌-◌, ◌<◌, ◌≤◌, nat_lt, Bool, true, false, ◌&&◌, if◌then◌else◌, Option, Some, None, Result, Ok, Err, List, [], ◌∷◌, ◌++◌, length, map, take, drop, slice_get, slice_index_or, refl, sym, ap, subst, ◌∙◌, arith, IfOk}
+use Rattle.std.proofs.Common.{◌≡◌, ℕ, zero, suc, ◌+◌, ◌<◌, nat_lt, Bool, true, false, ◌&&◌, if◌then◌else◌, Option, Some, None, Result, Ok, Err, List, [], ◌∷◌, ◌++◌, length, map, take, drop, slice_get, slice_index_or, refl, sym, ap, subst, ◌∙◌, arith, IfOk}
 use Rattle.std.specs.List.{fold, list_all}
 use Rattle.std.proofs.lemmas.Bool.{and_parts}
 use Rattle.std.proofs.lemmas.List.{take_more, drop_more, take-map, drop-map, length-map}
@@ -17,12 +17,12 @@ use Rattle.schema_graph.specs.Schema.{SchemaValue}
 use Rattle.query_terms.specs.declared.terms.Conjunct.{Conjunct}
 use Rattle.query_terms.specs.declared.terms.Rule.{Rule}
 use Rattle.query_terms.specs.Values.{ConjunctValue, RuleValue, has_edge, is_word, is_conjunct, is_rule, are_rules, has_heads, have_heads, arity_of}
-use Rattle.query_terms.specs.Spans.{cut, lies}
+use Rattle.query_terms.specs.Spans.{cut}
 use Rattle.query_terms.specs.Lists.{words_in, conjunct_in, conjuncts_in, rule_in, rules_in}
 use Rattle.skeletons.specs.Skeleton.{spine_of}
 use Rattle.query_draw.specs.Values.{spine, greatest_of}
 use Rattle.query_draw.specs.Wide.{symbol_matrix, times_symbol, word_matrix, plus_word, union_matrix, conjunct_matrix, times_conjunct}
-use Rattle.query_draw.proofs.WideLemmas.{union_kinds, word_kinds}
+use Rattle.query_draw.proofs.WideLemmas.{union_kinds}
 
 -- ---- lists
 

@@ -1,9 +1,9 @@
 -- The legs of a second path and of arms, and that each leg of a rule leads by a move.
-use Rattle.std.proofs.Common.{◌≡◌, ◌≢◌, ℕ, zero, suc, ◌+◌, ◌-◌, ◌*◌, ◌<◌, ◌≤◌, ◌==◌, nat_lt, Bool, true, false, ◌&&◌, ◌||◌, if◌then◌else◌, Option, Some, None, List, [], ◌∷◌, ◌++◌, length, map, slice_index_or, refl, sym, ap, subst, ◌∙◌, arith}
+use Rattle.std.proofs.Common.{◌≡◌, ◌≢◌, ℕ, zero, suc, ◌+◌, ◌-◌, ◌<◌, ◌≤◌, ◌==◌, nat_lt, true, false, ◌||◌, Some, List, [], ◌∷◌, ◌++◌, length, map, refl, sym, ap, subst, ◌∙◌, arith}
 use Rattle.std.specs.List.{All, range_with_len}
 use Rattle.std.proofs.lemmas.Bool.{and_parts}
 use Rattle.std.proofs.lemmas.Bool.Decides.{nat_tests}
-use Rattle.std.proofs.lemmas.List.{append_assoc, append-nil, get_or-map, length-map}
+use Rattle.std.proofs.lemmas.List.{append_assoc, append-nil, length-map}
 use Rattle.std.proofs.lemmas.List.Elements.{All-nil, All-cons, All-map, All-append, All-get_or, All-from_get_or}
 use Rattle.candidates.specs.Picked.{picked}
 use Rattle.sel_algebra.specs.declared.vocabulary.Class.{Class}
@@ -11,13 +11,13 @@ use Rattle.sel_algebra.specs.declared.vocabulary.Shape.{Shape}
 use Rattle.sel_algebra.specs.declared.vocabulary.Shape.TheVariants.{Chain, Star, Cycle, StarChain}
 use Rattle.gm_config.specs.declared.workload_rules.Workload.{Workload}
 use Rattle.schema_graph.specs.Schema.{SchemaValue}
-use Rattle.skeletons.specs.Skeleton.{HasSkeleton, spine_of, second_of, arms_of, arm_start, ends_of, upper_half, lower_half}
+use Rattle.skeletons.specs.Skeleton.{HasSkeleton, spine_of, second_of, arms_of, arm_start, ends_of, upper_half}
 use Rattle.sel_graph.specs.declared.states.State.{State}
 use Rattle.sel_graph.specs.declared.states.Move.{Move}
 use Rattle.sel_graph.specs.declared.states.Goal.{Goal}
 use Rattle.sel_graph.specs.States.{begun}
 use Rattle.sel_graph.specs.Moves.{ReachValue, IsReach, moved}
-use Rattle.sel_graph.specs.Tests.{is_move, joins, feasible, meets}
+use Rattle.sel_graph.specs.Tests.{is_move, joins, feasible}
 use Rattle.walk_pick.specs.Laws.{HasSymbol}
 use Rattle.walk_pick.specs.Candidates.{goal_of, link_candidates, arm_candidates}
 use Rattle.walk_pick.proofs.LawLemmas.{links_never_run_out, arms_never_run_out, moves_have_symbols}

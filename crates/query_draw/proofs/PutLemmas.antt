@@ -1,5 +1,5 @@
 -- What is put into a query that is being built.
-use Rattle.std.proofs.Common.{◌≡◌, ◌≢◌, ℕ, zero, suc, ◌+◌, ◌-◌, ◌*◌, ◌<◌, ◌≤◌, Bool, true, false, Option, Some, None, List, [], ◌∷◌, ◌++◌, length, map, refl, sym, ap, subst, ◌∙◌, arith}
+use Rattle.std.proofs.Common.{◌≡◌, ℕ, suc, ◌+◌, ◌<◌, ◌≤◌, Bool, true, Option, Some, None, List, [], ◌∷◌, ◌++◌, length, sym, ap, subst, ◌∙◌, arith}
 use Rattle.std.specs.List.{list_any}
 use Rattle.std.proofs.lemmas.List.{append_assoc, append-nil, length-append}
 use Rattle.std.proofs.lemmas.List.FromFn.{length-map-range_with_len}
@@ -22,7 +22,7 @@ use Rattle.sel_graph.specs.Tests.{can_walk, feasible}
 use Rattle.walk_pick.specs.Candidates.{types_of, is_live_start, start_candidates, goal_of, move_candidates, link_candidates, arm_candidates, length_candidates, symbol_candidates}
 use Rattle.walk_pick.specs.Laws.{HasSymbol}
 use Rattle.walk_pick.proofs.LawLemmas.{starts_never_run_out}
-use Rattle.query_terms.specs.Values.{ConjunctValue, RuleValue}
+use Rattle.query_terms.specs.Values.{ConjunctValue}
 use Rattle.query_terms.specs.Building.{Building, with_symbol, with_word, with_conjunct, with_rule}
 use Rattle.query_draw.specs.declared.legs.Leg.{Leg}
 use Rattle.query_draw.specs.Drawn.{Words, conjunct_place, word_place, wants_star, spine_move, second_move, arm_leg, drawn_symbol, drawn_symbols, drawn_length, drawn_word, word_count, drawn_words, drawn_start}

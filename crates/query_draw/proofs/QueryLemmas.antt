@@ -1,6 +1,6 @@
 -- The number of heads of a drawn query, and its parts put together.
-use Rattle.std.proofs.Common.{◌≡◌, ◌≢◌, ℕ, zero, suc, ◌+◌, ◌-◌, ◌^◌, ◌<◌, ◌≤◌, ◌==◌, Bool, true, false, ◌&&◌, if◌then◌else◌, Option, Some, None, List, [], ◌∷◌, ◌++◌, length, map, min, take, slice_index_or, refl, sym, ap, subst, ◌∙◌, arith}
-use Rattle.std.specs.List.{range_with_len, list_any, list_all, fold}
+use Rattle.std.proofs.Common.{◌≡◌, ℕ, zero, suc, ◌+◌, ◌-◌, ◌^◌, ◌<◌, ◌≤◌, ◌==◌, Bool, true, false, if◌then◌else◌, Option, Some, None, List, [], ◌∷◌, ◌++◌, length, map, min, take, slice_index_or, refl, sym, ap, subst, ◌∙◌, arith}
+use Rattle.std.specs.List.{range_with_len, list_any, fold}
 use Rattle.std.specs.Option.{is_some}
 use Rattle.std.proofs.lemmas.Bool.{and_parts}
 use Rattle.std.proofs.lemmas.List.FromFn.{length-range_with_len, get_or-range_with_len, length-map-range_with_len, get_or-map-range_with_len}
@@ -17,13 +17,13 @@ use Rattle.gm_config.specs.declared.workload_rules.Workload.{Workload}
 use Rattle.walk_pick.specs.Candidates.{is_live_start, types_of, goal_of, permits, count_candidates}
 use Rattle.walk_pick.proofs.LawLemmas.{picked_counts_are_live}
 use Rattle.query_terms.specs.Building.{Building}
-use Rattle.query_terms.specs.Values.{RuleValue, QueryValue, arity_of, has_class, have_heads}
+use Rattle.query_terms.specs.Values.{RuleValue, QueryValue, arity_of, has_class}
 use Rattle.sel_graph.specs.Moves.{ReachValue}
 use Rattle.query_draw.specs.Drawn.{Words, words_for, drawn_from, rule_conjuncts}
 use Rattle.query_draw.proofs.LegLemmas.{words_for-words}
-use Rattle.query_draw.specs.Query.{reach_of, drawn_shape, drawn_class, rule_count, wanted_arity, rule_size, at_most_variables, drawn_arity, heads_of, drawn_rule, drawn_rules, has_query, query_of, drawn_query}
+use Rattle.query_draw.specs.Query.{reach_of, drawn_shape, drawn_class, rule_count, wanted_arity, rule_size, at_most_variables, drawn_arity, heads_of, drawn_rule, drawn_rules, has_query, query_of}
 use Rattle.query_draw.specs.Wide.{query_wide}
-use Rattle.query_draw.proofs.RuleLemmas.{IsBegun, rule_is_begun, some_rules, wide_is_there}
+use Rattle.query_draw.proofs.RuleLemmas.{rule_is_begun, wide_is_there}
 use Rattle.query_draw.proofs.HeadLemmas.{AreHeads, heads_are}
 
 zero_more : (n : ℕ) → 0 + n ≡ n

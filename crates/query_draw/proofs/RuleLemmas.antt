@@ -1,5 +1,5 @@
 -- A drawn rule: its spine leads along, and its class is the one that was drawn.
-use Rattle.std.proofs.Common.{◌≡◌, ◌≢◌, ◌↔◌, ℕ, zero, suc, ◌+◌, ◌-◌, ◌*◌, ◌/◌, ◌^◌, ◌<◌, ◌≤◌, Bool, true, false, nat_le, ◌&&◌, if◌then◌else◌, Option, Some, None, List, [], ◌∷◌, ◌++◌, length, filter, map, take, refl, sym, ap, subst, ◌∙◌, arith}
+use Rattle.std.proofs.Common.{◌≡◌, ◌≢◌, ℕ, zero, suc, ◌+◌, ◌<◌, ◌≤◌, Bool, true, false, nat_le, if◌then◌else◌, Option, Some, None, List, [], ◌∷◌, ◌++◌, length, filter, map, take, refl, sym, ap, subst, ◌∙◌, arith}
 use Rattle.std.specs.List.{All, range_with_len, list_any}
 use Rattle.std.specs.Option.{is_some}
 use Rattle.std.proofs.lemmas.Bool.{and_parts}
@@ -9,7 +9,6 @@ use Rattle.std.proofs.lemmas.List.Elements.{All-head, All-tail, All-map, All-fro
 use Rattle.std.proofs.lemmas.List.FromFn.{length-map-range_with_len}
 use Rattle.candidates.specs.Picked.{picked}
 use Rattle.candidates.proofs.PickLemmas.{filter_none, none_passes, picked_some, picked_is_none}
-use Rattle.sel_algebra.specs.declared.vocabulary.Op.{Op}
 use Rattle.sel_algebra.specs.declared.vocabulary.Op.TheVariants.{Equal}
 use Rattle.sel_algebra.specs.declared.vocabulary.Class.{Class}
 use Rattle.sel_algebra.specs.declared.vocabulary.Shape.{Shape}
@@ -18,31 +17,29 @@ use Rattle.sel_algebra.specs.Operators.{growth_class}
 use Rattle.sel_algebra.specs.Entries.{ClassEntryAtMost, greater_class}
 use Rattle.sel_algebra.specs.Table.{kind_at}
 use Rattle.gm_config.specs.declared.workload_rules.Workload.{Workload}
-use Rattle.gm_config.specs.declared.workload_rules.Range.{Range}
 use Rattle.gm_config.specs.Config.{ConfigValue, IsConfig}
 use Rattle.gm_config.specs.WorkloadRules.{IsRange}
 use Rattle.schema_graph.specs.Configured.{schema_of}
 use Rattle.schema_graph.specs.Schema.{SchemaValue}
 use Rattle.schema_graph.proofs.ConfiguredLemmas.{IsSchema-schema_of}
-use Rattle.skeletons.specs.Skeleton.{conjuncts_most, HasSkeleton, spine_of, second_of, arms_of, ends_of, upper_half, lower_half, PartsAreAll, SpineIsInRange}
+use Rattle.skeletons.specs.Skeleton.{conjuncts_most, HasSkeleton, spine_of, second_of, arms_of, ends_of, PartsAreAll}
 use Rattle.sel_graph.specs.declared.states.State.{State}
-use Rattle.sel_graph.specs.declared.states.Move.{Move}
 use Rattle.sel_graph.specs.declared.states.Goal.{Goal}
 use Rattle.sel_graph.specs.States.{begun, state_class}
-use Rattle.sel_graph.specs.Moves.{ReachValue, IsReach, moved, Meets}
-use Rattle.sel_graph.specs.Tests.{numbers_of, feasible, meets}
+use Rattle.sel_graph.specs.Moves.{ReachValue, IsReach, moved}
+use Rattle.sel_graph.specs.Tests.{numbers_of, feasible}
 use Rattle.sel_graph.proofs.MoveLemmas.{meets_agree}
 use Rattle.walk_pick.specs.Candidates.{types_of, is_live_start, start_candidates, goal_of, permits, is_live_count, count_candidates}
 use Rattle.walk_pick.proofs.LawLemmas.{picked_within, starts_never_run_out}
 use Rattle.query_terms.specs.Values.{ConjunctValue, RuleValue, has_class}
 use Rattle.query_draw.specs.declared.legs.Leg.{Leg}
-use Rattle.query_draw.specs.Drawn.{Words, words_for, spine_move, spine_legs, second_move, second_legs, nth_arm, arm_legs, rule_spine, later_legs, rule_legs, variable_type, drawn_conjunct, drawn_conjuncts, drawn_count, drawn_start, rule_conjuncts}
+use Rattle.query_draw.specs.Drawn.{Words, words_for, spine_move, spine_legs, second_move, second_legs, nth_arm, arm_legs, rule_spine, later_legs, rule_legs, variable_type, drawn_conjunct, drawn_conjuncts, drawn_count, drawn_start}
 use Rattle.query_draw.specs.Query.{reach_of, drawn_shape, drawn_class, rule_count, rule_size, drawn_rule, drawn_rules, has_query, query_of}
-use Rattle.query_draw.specs.Values.{LeadsSpine, composed_along, spine, spine_start, spine_end, spine_value, spine_class, rule_class, greatest_of, query_class}
+use Rattle.query_draw.specs.Values.{LeadsSpine, composed_along, spine, spine_value, spine_class, rule_class, greatest_of}
 use Rattle.query_draw.specs.Wide.{query_wide}
 use Rattle.query_draw.specs.Laws.{HasSpine, DrawnClassIsClass, DrawnClassIsAtMostWideClass, ends_in, DrawnRulesHaveSkeletons, EachRuleTells}
 use Rattle.query_draw.proofs.WideLemmas.{LeadsSpine-start, LeadsSpine-end, class_at_most_wide}
-use Rattle.query_draw.proofs.LegLemmas.{AreWords, words_for-words, picked_is, spine_legs-none, spine_legs-more, after_legs, AreLegs, spine_legs-lead, conjuncts_lead}
+use Rattle.query_draw.proofs.LegLemmas.{AreWords, words_for-words, picked_is, spine_legs-none, spine_legs-more, after_legs, spine_legs-lead, conjuncts_lead}
 
 -- ---- what a rule begins with
 

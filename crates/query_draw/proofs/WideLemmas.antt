@@ -1,33 +1,32 @@
 -- Words that lead from type to type, and that the class of a query is at most its wide class.
-use Rattle.std.proofs.Common.{◌≡◌, ◌≢◌, ℕ, ◌<◌, ◌≤◌, Bool, true, false, if◌then◌else◌, Option, Some, None, List, [], ◌∷◌, length, map, slice_index_or, refl, sym, ap, subst, ◌∙◌, inl, inr, arith}
+use Rattle.std.proofs.Common.{◌≡◌, ◌≢◌, ℕ, ◌<◌, ◌≤◌, Bool, true, false, if◌then◌else◌, Option, Some, None, List, [], ◌∷◌, length, map, slice_index_or, refl, sym, ap, subst, ◌∙◌, arith}
 use Rattle.std.specs.List.{All, Contains, fold}
 use Rattle.std.proofs.lemmas.Bool.{eq-eqb}
 use Rattle.std.proofs.lemmas.List.{get_or-map, length-map}
 use Rattle.std.proofs.lemmas.List.Elements.{All-head, All-tail, All-get_or, Contains-get_or}
 use Rattle.sel_algebra.specs.declared.vocabulary.Op.{Op}
-use Rattle.sel_algebra.specs.declared.vocabulary.Op.TheVariants.{Equal, Less, Greater, Diamond, Cross}
+use Rattle.sel_algebra.specs.declared.vocabulary.Op.TheVariants.{Equal}
 use Rattle.sel_algebra.specs.declared.vocabulary.Class.{Class}
 use Rattle.sel_algebra.specs.declared.vocabulary.Kind.{Kind}
 use Rattle.sel_algebra.specs.declared.vocabulary.Shape.{Shape}
 use Rattle.sel_algebra.specs.declared.vocabulary.Symbol.{Symbol}
-use Rattle.sel_algebra.specs.Operators.{AtMost, join_of, star_of, normal_of, IsNormal, typed_composition, growth_class}
+use Rattle.sel_algebra.specs.Operators.{join_of, star_of, IsNormal, typed_composition, growth_class}
 use Rattle.sel_algebra.specs.Entries.{joined, EntryAtMost, ClassEntryAtMost, greater_class}
-use Rattle.sel_algebra.specs.Table.{types_most, Table, kind_at, entry, IsMatrix, one_at, zero_of, one_of, times_of, plus_of}
+use Rattle.sel_algebra.specs.Table.{types_most, Table, kind_at, entry, IsMatrix, one_at, zero_of, one_of, times_of}
 use Rattle.sel_algebra.specs.Closure.{closure_of}
 use Rattle.sel_algebra.specs.Greatest.{greatest_class_of}
 use Rattle.sel_algebra.proofs.EntryLemmas.{IsNormal-normal_of, EntryAtMost-refl, EntryAtMost-trans, EntryAtMost-joined_left, EntryAtMost-joined_right, joined-EntryAtMost}
 use Rattle.sel_algebra.proofs.TableLemmas.{entry-table_of, entry-plus_of, IsMatrix-one_of, IsMatrix-zero_of, IsMatrix-times_of, IsMatrix-plus_of}
-use Rattle.sel_algebra.proofs.PathLemmas.{product_paths, join_parts, closure_equal, closure_star, greatest_entries}
-use Rattle.schema_graph.specs.declared.edge.SchemaEdge.{SchemaEdge}
+use Rattle.sel_algebra.proofs.PathLemmas.{product_paths, join_parts, closure_star, greatest_entries}
 use Rattle.schema_graph.specs.Edge.{edge_at, taken, use_of, start_of, end_of, op_of, label_of, IsSchemaEdge}
 use Rattle.schema_graph.specs.Schema.{SchemaValue, IsSchema}
-use Rattle.schema_graph.specs.Labelled.{all_taken, matrix_of, HasOperators}
+use Rattle.schema_graph.specs.Labelled.{all_taken}
 use Rattle.schema_graph.proofs.EdgeLemmas.{IsSchemaEdge-taken}
 use Rattle.schema_graph.proofs.LabelledLemmas.{HasOperators-matrix_of}
 use Rattle.sel_graph.specs.Values.{value_from, value_of}
 use Rattle.query_terms.specs.Values.{ConjunctValue, RuleValue, has_class}
-use Rattle.query_draw.specs.Values.{Leads, LeadsWord, LeadsConjunct, LeadsSpine, word_start, end_from, word_end, first_word, word_value, union_value, conjunct_value, composed_along, spine, spine_start, spine_end_from, spine_end, spine_value, spine_class, rule_class, greatest_of, query_class}
-use Rattle.query_draw.specs.Wide.{symbol_matrix, times_symbol, word_matrix, plus_word, union_matrix, conjunct_matrix, times_conjunct, spine_matrix, rule_wide, query_wide}
+use Rattle.query_draw.specs.Values.{Leads, LeadsWord, LeadsConjunct, LeadsSpine, word_start, end_from, word_end, first_word, word_value, union_value, conjunct_value, composed_along, spine, spine_start, spine_end_from, spine_end, spine_class, rule_class, greatest_of}
+use Rattle.query_draw.specs.Wide.{symbol_matrix, times_symbol, word_matrix, plus_word, union_matrix, conjunct_matrix, times_conjunct, spine_matrix, rule_wide}
 use Rattle.query_draw.specs.Laws.{HasSpine, ClassIsAtMostWideClass}
 
 -- ---- ends
@@ -89,21 +88,21 @@ used g c known =
     (Contains-get_or (all_taken g c.back) c.edge e (rw (length-map g.edges (taken c.back)) known))
 
 -- the matrix of a symbol has its operator between its ends
-symbol_entry : (g : SchemaValue) → IsSchema g → (c : Symbol) → c.edge < length g.edges → entry (symbol_matrix g c) (start_of g.edges c) (end_of g.edges c) ≡ Some (op_of g.edges c)
+pub symbol_entry : (g : SchemaValue) → IsSchema g → (c : Symbol) → c.edge < length g.edges → entry (symbol_matrix g c) (start_of g.edges c) (end_of g.edges c) ≡ Some (op_of g.edges c)
 symbol_entry g is c known =
     let edge = symbol_edge g is c known in
     ((HasOperators-matrix_of g (label_of g.edges c) c.back is).entries (start_of g.edges c) (end_of g.edges c) edge.source edge.target (op_of g.edges c)).1 (used g c known)
 
 -- ---- products over types of given kinds
 
-times-at_least : (kinds : List Kind) (a b : Table) (i k j : ℕ) (v w : Op) → a.kinds ≡ kinds → i < length kinds → k < length kinds → j < length kinds
+pub times-at_least : (kinds : List Kind) (a b : Table) (i k j : ℕ) (v w : Op) → a.kinds ≡ kinds → i < length kinds → k < length kinds → j < length kinds
     → EntryAtMost (Some v) (entry a i k) → EntryAtMost (Some w) (entry b k j)
     → EntryAtMost (Some (typed_composition v w (kind_at kinds i) (kind_at kinds j))) (entry (times_of a b) i j)
 times-at_least kinds a b i k j v w same p q r first second =
     subst (λ ks. EntryAtMost (Some (typed_composition v w (kind_at ks i) (kind_at ks j))) (entry (times_of a b) i j)) same
     (product_paths a b i k j v w (rw same p) (rw same q) (rw same r) first second)
 
-one-least : (kinds : List Kind) (t : ℕ) → t < length kinds → EntryAtMost (Some Equal) (entry (one_of kinds) t t)
+pub one-least : (kinds : List Kind) (t : ℕ) → t < length kinds → EntryAtMost (Some Equal) (entry (one_of kinds) t t)
 one-least kinds t here = rw (entry-table_of kinds one_at t t here here, eq-eqb t t refl) (EntryAtMost-refl (Some Equal))
 
 -- ---- words
@@ -192,7 +191,7 @@ union_normal g t (word ∷ words) each =
 
 -- ---- matrices
 
-word_is_matrix : (g : SchemaValue) (a : Table) (word : List Symbol) → IsMatrix a → IsMatrix (fold (times_symbol g) a word)
+pub word_is_matrix : (g : SchemaValue) (a : Table) (word : List Symbol) → IsMatrix a → IsMatrix (fold (times_symbol g) a word)
 word_is_matrix g a [] is = is
 word_is_matrix g a (c ∷ word) is = word_is_matrix g (times_symbol g a c) word (IsMatrix-times_of a (symbol_matrix g c) is)
 

@@ -10,10 +10,9 @@ use Rattle.std.specs.Prelude.{◌≡◌, ℕ, ◌+◌, ◌<◌, ◌==◌, ◌||�
 use Rattle.seeded_draw.specs.Draw.{word}
 use Rattle.sel_algebra.specs.declared.vocabulary.Class.{Class}
 use Rattle.sel_algebra.specs.declared.vocabulary.Symbol.{Symbol}
-use Rattle.skeletons.specs.Skeleton.{SkeletonValue, spine_of, second_of, arms_of}
+use Rattle.skeletons.specs.Skeleton.{SkeletonValue, spine_of, arms_of}
 use Rattle.sel_graph.specs.declared.states.State.{State}
 use Rattle.sel_graph.specs.declared.states.Goal.{Goal}
-use Rattle.sel_graph.specs.States.{begun}
 use Rattle.sel_graph.specs.Moves.{ReachValue}
 use Rattle.sel_graph.specs.Tests.{is_move, joins}
 use Rattle.query_terms.specs.Values.{ConjunctValue, RuleValue}

@@ -7,7 +7,7 @@
 --   DrawnClassIsAtMostWideClass   and is at most its wide class
 --   DrawnRulesHaveSkeletons    the conjuncts of a drawn rule join its variables as the skeleton says
 --   EachRuleTells              each rule has a number of conjuncts to pick, or none has
-use Rattle.std.specs.Prelude.{◌≡◌, ◌≢◌, ◌↔◌, ℕ, ◌^◌, ◌<◌, ◌≤◌, Bool, false, IsTrue, IsNone, List, [], length, map}
+use Rattle.std.specs.Prelude.{◌≡◌, ◌≢◌, ◌↔◌, ℕ, ◌^◌, ◌<◌, ◌≤◌, false, IsTrue, IsNone, List, [], length, map}
 use Rattle.std.specs.List.{All, range_with_len}
 use Rattle.candidates.specs.Picked.{picked}
 use Rattle.sel_algebra.specs.declared.vocabulary.Shape.{Shape}

@@ -1,5 +1,6 @@
 pub mod Drawn
 pub mod Values
+pub mod Sparse
 pub mod Wide
 pub mod Query
 pub mod Drawers

@@ -8,7 +8,7 @@
 --   drawn_rule, drawn_rules             a rule, and all rules
 --   has_query                           some number of conjuncts in range has a start that can meet the shape and the class
 --   drawn_query c seed number           the query, and none where there is no such number
-use Rattle.std.specs.Prelude.{ℕ, ◌+◌, ◌-◌, nat_lt, Bool, if◌then◌else◌, Option, Some, None, List, [], ◌∷◌, ◌++◌, length, map, min, take}
+use Rattle.std.specs.Prelude.{ℕ, ◌+◌, ◌-◌, nat_lt, Bool, if◌then◌else◌, Option, Some, None, List, ◌∷◌, ◌++◌, map, min, take}
 use Rattle.std.specs.List.{range_with_len, list_any, fold}
 use Rattle.sel_algebra.specs.declared.vocabulary.Class.{Class}
 use Rattle.sel_algebra.specs.declared.vocabulary.Class.TheVariants.{Constant}

@@ -12,7 +12,7 @@
 --   rule_class g shape rule      the class of a rule
 --   greatest_of classes          the greatest class of a list
 --   query_class g shape rules    the class of a query: with two heads, the greatest of its rules
-use Rattle.std.specs.Prelude.{◌≡◌, ◌≢◌, ℕ, ◌<◌, Bool, true, if◌then◌else◌, Option, Some, None, List, [], ◌∷◌, length, map, take, slice_index_or}
+use Rattle.std.specs.Prelude.{◌≡◌, ◌≢◌, ℕ, ◌<◌, true, if◌then◌else◌, Option, Some, None, List, [], ◌∷◌, length, map, take, slice_index_or}
 use Rattle.std.specs.List.{All}
 use Rattle.sel_algebra.specs.declared.vocabulary.Op.{Op}
 use Rattle.sel_algebra.specs.declared.vocabulary.Op.TheVariants.{Equal}

@@ -6,7 +6,7 @@
 --   spine_matrix g cs           the product of the matrices of conjuncts
 --   rule_wide g shape rule      the greatest class in the matrix of a rule's spine
 --   query_wide g shape rules    with two heads, the greatest of the rules
-use Rattle.std.specs.Prelude.{Bool, if◌then◌else◌, Option, None, List, map}
+use Rattle.std.specs.Prelude.{if◌then◌else◌, Option, None, List, map}
 use Rattle.std.specs.List.{fold}
 use Rattle.sel_algebra.specs.declared.vocabulary.Class.{Class}
 use Rattle.sel_algebra.specs.declared.vocabulary.Shape.{Shape}

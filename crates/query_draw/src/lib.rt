@@ -3,6 +3,7 @@
 //! A query is drawn of a configuration, a seed and its number. All that it asks for follows from these three.
 #![tactic(auto)]
 
+mod along;
 mod drawer;
 mod drawing;
 mod errors;
@@ -13,6 +14,7 @@ mod paths;
 mod plan;
 mod query;
 mod rules;
+mod sparse;
 mod wide;
 mod words;
 

@@ -1,20 +1,23 @@
 //! The wide class of a query: what the classes of all paths along its labels are at most.
 
-ghost use Rattle.std.specs.Prelude.{◌≡◌, ◌≤◌, true, length, take, IfOk};
+ghost use Rattle.std.specs.Prelude.{◌≡◌, ◌≤◌, true, length, take, IfOk, OnOk};
 ghost use Rattle.std.specs.List.{list_all};
 ghost use Rattle.sel_algebra.specs.Entries.{greater_class};
 ghost use Rattle.sel_algebra.specs.Table.{IsMatrix};
 ghost use Rattle.skeletons.specs.Skeleton.{spine_of};
-ghost use Rattle.query_terms.specs.Values.{has_edge, is_word, is_conjunct, is_rule};
+ghost use Rattle.query_terms.specs.Values.{is_word, is_conjunct, is_rule};
 ghost use Rattle.query_terms.specs.Spans.{cut, lies};
 ghost use Rattle.query_terms.specs.Lists.{words_in, conjunct_in, conjuncts_in, rule_in};
 ghost use Rattle.query_terms.specs.View.{query_value};
-ghost use Rattle.query_draw.specs.Wide.{symbol_matrix, word_matrix, union_matrix, conjunct_matrix, spine_matrix, rule_wide, query_wide};
+ghost use Rattle.query_draw.specs.Sparse.{IsFree};
+ghost use Rattle.query_draw.specs.Wide.{union_matrix, conjunct_matrix, spine_matrix, rule_wide, query_wide};
 
+use crate::along::follow_word;
+use crate::sparse::{Sparse, clear, join_all, no_entries};
 use gm_text::Span;
 use query_terms::{Conjunct, Query, Rule};
 use schema_graph::Schema;
-use sel_algebra::{Class, Matrix, Shape, Symbol};
+use sel_algebra::{Class, Matrix, Shape};
 use std::alloc::{AllocError, Global};
 
 /// The wide class of a query over a schema, whose edges its symbols name.
@@ -78,27 +81,37 @@ fn spine_matrix(
     requires edges { list_all (is_conjunct (length schema.now.edges)) (conjuncts_in query.now.symbols.now query.now.words.now conjuncts.now) ≡ true }
     ensures { IfOk result (λ matrix. matrix ≡ spine_matrix schema.now (conjuncts_in query.now.symbols.now query.now.words.now conjuncts.now)) }
 {
+    let mut word = no_entries(alloc, schema.kinds())?;
+    let mut spare = no_entries(alloc, schema.kinds())?;
     let mut matrix = Matrix::one(alloc, schema.kinds())?;
     for conjunct in conjuncts {
-        let next = conjunct_matrix(alloc, schema, query, conjunct)?;
+        let next = conjunct_matrix(alloc, schema, query, conjunct, &mut word, &mut spare)?;
         matrix = matrix.times(alloc, &next)?;
     }
     Ok(matrix)
 }
 
 /// The matrix of a conjunct: the join of its words, and the closure of that where it is starred.
+///
+/// Two matrices with no entries are given for the work, and have none after it.
 fn conjunct_matrix(
     alloc: Global,
     schema: &Schema,
     query: &Query<'_>,
     conjunct: &Conjunct,
+    word: &mut Sparse,
+    spare: &mut Sparse,
 ) -> Result<Matrix, AllocError>
     requires lies { lies (length query.now.words.now) conjunct.now.words ≡ true }
     requires edges { is_conjunct (length schema.now.edges) (conjunct_in (words_in query.now.symbols.now query.now.words.now) conjunct.now) ≡ true }
-    ensures { IfOk result (λ matrix. matrix ≡ conjunct_matrix schema.now (conjunct_in (words_in query.now.symbols.now query.now.words.now) conjunct.now)) }
+    requires word { IsFree (length schema.now.kinds) word.old }
+    requires spare { IsFree (length schema.now.kinds) spare.old }
+    ensures value { IfOk result (λ matrix. matrix ≡ conjunct_matrix schema.now (conjunct_in (words_in query.now.symbols.now query.now.words.now) conjunct.now)) }
+    ensures word { OnOk result (IsFree (length schema.now.kinds) word.new) }
+    ensures spare { OnOk result (IsFree (length schema.now.kinds) spare.new) }
 {
     let words = cut(query.words, conjunct.words);
-    let union = union_matrix(alloc, schema, query, words)?;
+    let union = union_matrix(alloc, schema, query, words, word, spare)?;
     if conjunct.star {
         union.closure(alloc)
     } else {
@@ -107,44 +120,32 @@ fn conjunct_matrix(
 }
 
 /// The join of the matrices of words.
+///
+/// Two matrices with no entries are given for the work, and have none after it.
 fn union_matrix(
     alloc: Global,
     schema: &Schema,
     query: &Query<'_>,
     words: &[Span],
+    word: &mut Sparse,
+    spare: &mut Sparse,
 ) -> Result<Matrix, AllocError>
     requires lie { list_all (lies (length query.now.symbols.now)) words.now ≡ true }
     requires edges { list_all (is_word (length schema.now.edges)) (words_in query.now.symbols.now words.now) ≡ true }
-    ensures { IfOk result (λ matrix. matrix ≡ union_matrix schema.now (words_in query.now.symbols.now words.now)) }
+    requires word { IsFree (length schema.now.kinds) word.old }
+    requires spare { IsFree (length schema.now.kinds) spare.old }
+    ensures value { IfOk result (λ matrix. matrix ≡ union_matrix schema.now (words_in query.now.symbols.now words.now)) }
+    ensures word { OnOk result (IsFree (length schema.now.kinds) word.new) }
+    ensures spare { OnOk result (IsFree (length schema.now.kinds) spare.new) }
 {
+    let count = schema.kind_count() as usize;
     let mut union = Matrix::zero(alloc, schema.kinds())?;
-    for word in words {
-        let next = word_matrix(alloc, schema, cut(query.symbols, *word))?;
-        union = union.plus(alloc, &next)?;
+    for span in words {
+        follow_word(schema, cut(query.symbols, *span), word, spare)?;
+        join_all(&mut union, word);
+        clear(count, word);
     }
     Ok(union)
-}
-
-/// The product of the matrices of the symbols of a word.
-fn word_matrix(alloc: Global, schema: &Schema, word: &[Symbol]) -> Result<Matrix, AllocError>
-    requires { list_all (has_edge (length schema.now.edges)) word.now ≡ true }
-    ensures { IfOk result (λ matrix. matrix ≡ word_matrix schema.now word.now) }
-{
-    let mut matrix = Matrix::one(alloc, schema.kinds())?;
-    for symbol in word {
-        let next = symbol_matrix(alloc, schema, *symbol)?;
-        matrix = matrix.times(alloc, &next)?;
-    }
-    Ok(matrix)
-}
-
-/// The matrix of a symbol: that of its label and direction.
-fn symbol_matrix(alloc: Global, schema: &Schema, symbol: Symbol) -> Result<Matrix, AllocError>
-    requires { has_edge (length schema.now.edges) symbol ≡ true }
-    ensures { IfOk result (λ matrix. matrix ≡ symbol_matrix schema.now symbol) }
-{
-    let label = schema.label_of(symbol);
-    schema.matrix_of(alloc, label, symbol.back)
 }
 
 /// The greater of two classes, `None` being below all.

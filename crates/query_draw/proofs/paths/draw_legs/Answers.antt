@@ -1,9 +1,9 @@
 use Rattle.std.proofs.Common.{◌≡◌, ◌<◌, ◌≤◌, ◌++◌, length, sym, ap, subst, ◌∙◌, arith}
 use Rattle.std.specs.List.{All}
 use Rattle.std.proofs.lemmas.List.{append_assoc}
-use Rattle.skeletons.specs.Skeleton.{spine_of, second_of, arms_of}
+use Rattle.skeletons.specs.Skeleton.{spine_of, second_of}
 use Rattle.sel_graph.specs.States.{begun}
-use Rattle.query_draw.specs.Drawn.{variable_type, rule_spine, arm_legs}
+use Rattle.query_draw.specs.Drawn.{variable_type, rule_spine}
 use Rattle.query_draw.specs.Drawers.{random_words, spine_by, second_by, arms_by, IsLeg, CanLink}
 use Rattle.query_draw.proofs.PutLemmas.{stream_words}
 use Rattle.query_draw.proofs.PathLemmas.{rule_spine-is, legs_each}

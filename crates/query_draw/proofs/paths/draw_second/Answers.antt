@@ -1,4 +1,4 @@
-use Rattle.std.proofs.Common.{◌≡◌, ◌+◌, ◌-◌, suc, sym, ap, subst, refl, ◌∙◌, arith}
+use Rattle.std.proofs.Common.{◌≡◌, ◌+◌, ◌-◌, suc, subst, refl, ◌∙◌, arith}
 use Rattle.query_draw.specs.Drawers.{random_words, second_by, CanLink}
 use Rattle.query_draw.proofs.PathLemmas.{second_left-more, second_left-none}
 use Rattle.query_draw.proofs.paths.draw_second.Goals as goal

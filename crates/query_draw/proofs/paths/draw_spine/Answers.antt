@@ -1,6 +1,5 @@
-use Rattle.std.proofs.Common.{◌≡◌, ◌+◌, ◌-◌, suc, true, sym, ap, subst, ◌∙◌, arith}
+use Rattle.std.proofs.Common.{◌≡◌, ◌+◌, ◌-◌, suc, true, sym, subst, arith}
 use Rattle.sel_graph.specs.States.{begun}
-use Rattle.sel_graph.specs.Moves.{moved}
 use Rattle.sel_graph.specs.Tests.{feasible}
 use Rattle.query_draw.specs.Drawers.{random_words, spine_by}
 use Rattle.query_draw.proofs.PathLemmas.{spine_left-more, spine_left-none}

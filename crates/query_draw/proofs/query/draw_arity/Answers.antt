@@ -1,4 +1,4 @@
-use Rattle.std.proofs.Common.{◌≡◌, ap, sym, ◌∙◌, arith}
+use Rattle.std.proofs.Common.{◌≡◌, ap, ◌∙◌, arith}
 use Rattle.skeletons.specs.Skeleton.{variables_of}
 use Rattle.query_draw.specs.Query.{drawn_shape, rule_size}
 use Rattle.query_draw.proofs.QueryLemmas.{arity_after-more, size_within, size_at, size_skeleton}

@@ -1,7 +1,7 @@
-use Rattle.std.proofs.Common.{◌≡◌, ◌∙◌, ◌≤◌, ◌<◌, ℕ, List, length, map, ap, sym, arith}
+use Rattle.std.proofs.Common.{◌∙◌, length, map, ap, arith}
 use Rattle.std.proofs.lemmas.List.FromFn.{length-map-range_with_len}
 use Rattle.query_terms.specs.Lists.{rules_in}
-use Rattle.query_draw.specs.Query.{rule_count, rule_size, drawn_shape, drawn_rules}
+use Rattle.query_draw.specs.Query.{rule_count, rule_size}
 use Rattle.query_draw.specs.Wide.{query_wide}
 use Rattle.query_draw.proofs.QueryLemmas.{few_rules, arity_few, rules_some, class_there, planned_is, wide_there}
 use Rattle.query_draw.proofs.query.draw_planned.Goals as goal

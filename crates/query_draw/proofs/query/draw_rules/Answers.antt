@@ -1,10 +1,10 @@
-use Rattle.std.proofs.Common.{◌≡◌, ◌+◌, ◌≤◌, ◌<◌, length, map, sym, ap, subst, ◌∙◌, arith}
+use Rattle.std.proofs.Common.{◌≡◌, ◌+◌, length, map, ap, subst, ◌∙◌, arith}
 use Rattle.std.specs.List.{range_with_len}
 use Rattle.std.proofs.lemmas.List.FromFn.{map-range_with_len_more, length-map-range_with_len}
 use Rattle.seeded_draw.specs.Draw.{word}
 use Rattle.skeletons.specs.Skeleton.{variables_of}
 use Rattle.query_draw.specs.Query.{rule_size, rule_count, drawn_shape, drawn_rule}
-use Rattle.query_draw.specs.Drawers.{random_words, rule_by}
+use Rattle.query_draw.specs.Drawers.{random_words}
 use Rattle.query_draw.proofs.QueryLemmas.{size_within, size_at, size_skeleton, arity_variables, live_start, rule_drawn, rules_put-more}
 use Rattle.query_draw.proofs.query.draw_rules.Goals as goal
 

@@ -1,7 +1,7 @@
 use Rattle.std.proofs.Common.{◌≡◌, ◌++◌, length, true, sym, ap, subst, ◌∙◌}
 use Rattle.std.specs.List.{list_all}
 use Rattle.query_terms.specs.Values.{differ, occurs}
-use Rattle.query_draw.specs.Drawers.{random_words, conjuncts_by, legs_by}
+use Rattle.query_draw.specs.Drawers.{random_words, conjuncts_by}
 use Rattle.query_draw.proofs.RuleLemmas.{length-rule_legs}
 use Rattle.query_draw.proofs.ConjunctLemmas.{rule_whole}
 use Rattle.query_draw.proofs.rules.draw_rule.Goals as goal

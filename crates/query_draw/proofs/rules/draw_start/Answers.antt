@@ -1,4 +1,3 @@
-use Rattle.std.proofs.Common.{ap, ◌∙◌}
 use Rattle.query_draw.specs.Drawers.{random_words}
 use Rattle.query_draw.proofs.PutLemmas.{stream_words, start_found, some_same, some_none}
 use Rattle.query_draw.proofs.rules.draw_start.Goals as goal

@@ -20,17 +20,17 @@ union_matrix-requires-clause-edges c =
     let n = length c.args.schema.now.edges in
     subst (λ words. list_all (is_word n) (words_in q.symbols.now words) ≡ true) (sym c.cut-words.ensures) (conjunct_words n q.symbols.now q.words.now c.args.conjunct.now c.requires.edges)
 
-pub returns-then-conjunct : goal.returns-then-conjunct
-returns-then-conjunct c =
+pub returns-then-conjunct-clause-value : goal.returns-then-conjunct-clause-value
+returns-then-conjunct-clause-value c =
     let g = c.args.schema.now in
     let q = c.args.query.now in
     let whole = conjunct_matrix g (conjunct_in (words_in q.symbols.now q.words.now) c.args.conjunct.now) in
     if_ok (λ x. x ≡ closure_of c.in_ok-union.union) (λ x. x ≡ whole)
-    (λ x is. is ∙ starred_matrix g q.symbols.now q.words.now c.args.conjunct.now c.in_ok-union.union c.if-conjunct.true (c.in_ok-union.ensures ∙ ap (λ words. union_matrix g (words_in q.symbols.now words)) c.cut-words.ensures))
+    (λ x is. is ∙ starred_matrix g q.symbols.now q.words.now c.args.conjunct.now c.in_ok-union.union c.if-conjunct.true (c.in_ok-union.ensures.value ∙ ap (λ words. union_matrix g (words_in q.symbols.now words)) c.cut-words.ensures))
     c.closure.result c.closure.ensures.value
 
-pub returns-else-conjunct : goal.returns-else-conjunct
-returns-else-conjunct c =
+pub returns-else-conjunct-clause-value : goal.returns-else-conjunct-clause-value
+returns-else-conjunct-clause-value c =
     let g = c.args.schema.now in
     let q = c.args.query.now in
-    plain_matrix g q.symbols.now q.words.now c.args.conjunct.now c.in_ok-union.union c.if-conjunct.false (c.in_ok-union.ensures ∙ ap (λ words. union_matrix g (words_in q.symbols.now words)) c.cut-words.ensures)
+    plain_matrix g q.symbols.now q.words.now c.args.conjunct.now c.in_ok-union.union c.if-conjunct.false (c.in_ok-union.ensures.value ∙ ap (λ words. union_matrix g (words_in q.symbols.now words)) c.cut-words.ensures)

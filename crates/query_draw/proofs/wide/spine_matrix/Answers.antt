@@ -14,7 +14,7 @@ conjunct_matrix-requires-clause-edges c =
     (passes_mapped (is_conjunct n) whole c.args.conjuncts.now i c.conjunct-item.result c.requires.edges c.loop-conjunct-test.true)
 
 pub times-requires : goal.times-requires
-times-requires c = ap (λ t. t.kinds) c.in_ok-next.ensures ∙ (conjunct_kinds c.args.schema.now (conjunct_in (words_in c.args.query.now.symbols.now c.args.query.now.words.now) c.conjunct-item.result) ∙ sym c.loop-conjunct.invariant.kinds)
+times-requires c = ap (λ t. t.kinds) c.in_ok-next.ensures.value ∙ (conjunct_kinds c.args.schema.now (conjunct_in (words_in c.args.query.now.symbols.now c.args.query.now.words.now) c.conjunct-item.result) ∙ sym c.loop-conjunct.invariant.kinds)
 
 pub loop-conjunct-preserved : goal.loop-conjunct-preserved
 loop-conjunct-preserved c =
@@ -25,6 +25,8 @@ loop-conjunct-preserved c =
     record {
       product =
           spine_more g q.symbols.now q.words.now c.loop-conjunct.matrix c.in_ok-next.next c.in_ok-matrix-2.matrix c.args.conjuncts.now i item.result c.loop-conjunct-test.true
-          (sym item.is) c.loop-conjunct.invariant.product c.in_ok-next.ensures c.in_ok-matrix-2.ensures.value;
+          (sym item.is) c.loop-conjunct.invariant.product c.in_ok-next.ensures.value c.in_ok-matrix-2.ensures.value;
       kinds = ap (λ t. t.kinds) c.in_ok-matrix-2.ensures.value ∙ c.loop-conjunct.invariant.kinds;
+      word = c.in_ok-next.ensures.word;
+      spare = c.in_ok-next.ensures.spare;
     }

@@ -1,4 +1,4 @@
-use Rattle.std.proofs.Common.{◌≡◌, ◌<◌, length, map, true, sym, ap, subst, ◌∙◌}
+use Rattle.std.proofs.Common.{◌<◌, length, map, sym, ap, subst, ◌∙◌}
 use Rattle.std.proofs.lemmas.List.{length-map}
 use Rattle.sel_algebra.specs.Entries.{greater_class}
 use Rattle.query_terms.specs.Spans.{lies}

@@ -1,4 +1,4 @@
-use Rattle.std.proofs.Common.{◌≡◌, ◌+◌, ◌-◌, ◌<◌, suc, length, sym, ap, subst, ◌∙◌, arith}
+use Rattle.std.proofs.Common.{◌≡◌, ◌+◌, ◌-◌, ◌<◌, suc, length, ap, subst, ◌∙◌, arith}
 use Rattle.sel_graph.specs.States.{carried}
 use Rattle.query_draw.specs.Drawn.{drawn_symbol}
 use Rattle.query_draw.specs.Drawers.{random_words, symbols_by, with_symbols}
