@@ -64,12 +64,13 @@ fn command_line(alloc: Global, line: &str) -> Result<Vec<String>, AllocError> {
     Ok(words)
 }
 
-/// How a run ends, the names and bytes of the files that it leaves, one behind the other, and the bytes of
+/// How a run ends, the number of files that it leaves, their names and bytes, one behind the other, and the bytes of
 /// `workload.txt`.
 #[derive(Drop)]
 struct Left {
     outcome: Outcome,
     line: String,
+    count: usize,
     files: Vec<u8>,
     workload: Vec<u8>,
 }
@@ -101,6 +102,7 @@ fn left_by(
     Ok(Left {
         outcome,
         line: outcome.line(alloc)?,
+        count: folder.file_count(),
         files,
         workload,
     })
@@ -599,6 +601,35 @@ fn the_longest_input_is_read(rt: HostRuntime) -> Result<(), Fail> {
         let text = vec![in alloc; b' '; count]?;
         let (outcome, _, calls) = counted(alloc, "generate 1", &text)?;
         assert_eq!(rt; (outcome.line(alloc)?.as_str(), calls), (line, 0));
+    }
+    Ok(())
+}
+
+#[test]
+fn a_sample_reads_nothing_and_has_a_summary(rt: HostRuntime) -> Result<(), Fail> {
+    let alloc = rt.alloc();
+    // The first read of the source would fail.
+    for (words, end) in [
+        (
+            "sample 1",
+            "summary.txt: constraint 0 916\nconstraint 1 300\nconstraint 2 162\nconstraint 3 100\nclass constant 3\nclass linear 3\nclass quadratic 4\n",
+        ),
+        (
+            "sample 10",
+            "summary.txt: constraint 0 9005\nconstraint 1 3000\nconstraint 2 1461\nconstraint 3 1000\nclass constant 4\nclass linear 4\nclass quadratic 2\n",
+        ),
+    ] {
+        let left = left_by(alloc, words, b"", 1, 0, 0)?;
+        let again = left_by(alloc, words, b"", 1, 0, 0)?;
+        assert_eq!(rt;
+            (
+                left.outcome,
+                left.count,
+                left.files.ends_with(end.as_bytes()),
+                left.files == again.files
+            ),
+            (Outcome::Done, 23, true, true)
+        );
     }
     Ok(())
 }
