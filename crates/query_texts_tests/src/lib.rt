@@ -4,6 +4,4 @@
 #![tactic(auto)]
 
 #[cfg(test)]
-mod sparql_emit_tests;
-#[cfg(test)]
-mod sql_emit_tests;
+mod texts_tests;
