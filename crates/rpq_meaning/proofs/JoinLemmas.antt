@@ -8,7 +8,7 @@ use Rattle.graph_text.proofs.MemberLemmas.{Contains-first, Contains-later, Conta
 use Rattle.graph_text.proofs.MemberLemmas.{Contains-append_cases, Contains-flat_map, Contains-from_flat_map, Contains-map, Contains-from_map}
 use Rattle.graph_text.proofs.MemberLemmas.{list_all-member, list_all-from_members, Contains-list_any}
 use Rattle.query_terms.specs.declared.terms.Conjunct.{Conjunct}
-use Rattle.rpq_meaning.specs.Tables.{table_in}
+use Rattle.node_tables.specs.Tables.{table_in}
 use Rattle.rpq_meaning.specs.Joins.{Mapping, agrees, fits, fits_pair, with_pair, if_fits, grown, grow, mappings, assigned}
 
 -- ---- one number for each variable

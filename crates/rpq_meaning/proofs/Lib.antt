@@ -1,5 +1,3 @@
-pub mod SelectLemmas
-pub mod NodeLemmas
 pub mod TableLemmas
 pub mod JoinLemmas
 pub mod QueryLemmas

@@ -25,7 +25,8 @@ use Rattle.query_terms.proofs.SpanLemmas.{covers-join}
 use Rattle.query_terms.proofs.QueryLemmas.{conjuncts_keep}
 use Rattle.query_terms.proofs.TreeLemmas.{are_numbered}
 use Rattle.rpq_meaning.specs.QueryRows.{ArePairs}
-use Rattle.rpq_meaning.specs.Tables.{AreTables, table_in}
+use Rattle.node_tables.specs.Tables.{table_in}
+use Rattle.rpq_meaning.specs.Tables.{AreTables}
 use Rattle.rpq_meaning.specs.QueryRows.{IsTrueFor, IsRuleRow}
 use Rattle.rpq_meaning.specs.Joins.{rule_rows, rows_of}
 use Rattle.rpq_meaning.proofs.JoinLemmas.{IsAmong, occurs_in, joined_rows}

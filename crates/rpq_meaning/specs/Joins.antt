@@ -12,7 +12,7 @@ use Rattle.query_terms.specs.declared.terms.Heads.{Heads}
 use Rattle.query_terms.specs.declared.terms.Rule.{Rule}
 use Rattle.query_terms.specs.Lists.{heads_in, is_heads}
 use Rattle.query_terms.specs.Spans.{cut, lies}
-use Rattle.rpq_meaning.specs.Tables.{table_in}
+use Rattle.node_tables.specs.Tables.{table_in}
 
 -- variables with numbers; a variable may stand twice, with the same number
 abbrev pub Mapping : Type 0

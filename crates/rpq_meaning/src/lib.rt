@@ -1,10 +1,9 @@
 //! What queries mean: the pairs of numbers that a path over a graph leads between, and the rows of a query.
 //!
-//! The evaluators are plain and slow: each list is that of the pairs of nodes that pass a test.
+//! The evaluators are plain and slow: each list is that of the pairs of nodes that pass a test, as in `node_tables`.
 #![tactic(auto)]
 
 mod mappings;
-mod nodes;
 mod queries;
 mod relations;
 mod tables;

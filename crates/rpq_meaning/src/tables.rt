@@ -7,11 +7,12 @@ ghost use Rattle.graph_text.specs.Pairs.{IsAscending};
 ghost use Rattle.query_terms.specs.Store.{ChildrenBelow, IsStore};
 ghost use Rattle.query_terms.specs.Trees.{tree_at};
 ghost use Rattle.rpq_meaning.specs.QueryRows.{ArePairs};
-ghost use Rattle.rpq_meaning.specs.Tables.{AreNodes, rounds, table_in, table_of, tables_of, AreTables};
+ghost use Rattle.node_tables.specs.Tables.{table_in};
+ghost use Rattle.rpq_meaning.specs.Tables.{table_of, tables_of, AreTables};
 
-use crate::nodes::{nodes_of, select};
-use crate::relations::{Either, Further, Joined, OrSame, Step};
+use crate::relations::Step;
 use graph_text::{Graph, Pairs, Triple};
+use node_tables::{Either, Joined, OrSame, nodes_of, repeated, select};
 use query_terms::{Term, TermId, TermStore};
 use std::alloc::{AllocError, Global};
 
@@ -92,7 +93,7 @@ fn table_of(
             let right = table_at(tables, right);
             select(alloc, nodes, &Either { left, right })
         }
-        Term::Star(child) => star_of(alloc, nodes, table_at(tables, child)),
+        Term::Star(child) => repeated(alloc, nodes, table_at(tables, child)),
         Term::Opt(child) => {
             let pairs = table_at(tables, child);
             select(alloc, nodes, &OrSame { pairs })
@@ -106,25 +107,4 @@ pub(crate) fn table_at(tables: &[Pairs], id: TermId) -> &[(u32, u32)]
     ensures { result.now ≡ table_in tables.now id }
 {
     tables[id.number() as usize].as_slice()
-}
-
-/// The pairs of a repetition, after as many rounds as there are nodes.
-fn star_of(alloc: Global, nodes: &[u32], step: &[(u32, u32)]) -> Result<Pairs, AllocError>
-    requires { IsStrictlySortedBy nat_cmp nodes.now }
-    ensures { IfOk result (λ pairs. pairs ≡ rounds nodes.now step.now (length nodes.now)) }
-{
-    let mut pairs = select(alloc, nodes, &OrSame { pairs: &[] })?;
-    for _round in 0..nodes.len() {
-        let before = pairs.as_slice();
-        pairs = select(
-            alloc,
-            nodes,
-            &Further {
-                nodes,
-                pairs: before,
-                step,
-            },
-        )?;
-    }
-    Ok(pairs)
 }
