@@ -124,10 +124,10 @@ is_node_at-triple config c In triple own = (all_three (is_node_at config c Out t
 test-between : (first count n v : ℕ) → n ≡ count → nat_le first v && nat_lt v (first + count) ≡ true → IsBetween first n v
 test-between first count n v same between = (grind (arith, nat_tests), grind (arith, nat_tests))
 
-smaller_total : (config : ConfigValue) (seed c : ℕ) (side : Side) (number : ℕ) → number ≡ min (side_total config seed c Out) (side_total config seed c In)
+number_of_fewer : (config : ConfigValue) (seed c : ℕ) (side : Side) (number : ℕ) → number ≡ min (side_total config seed c Out) (side_total config seed c In)
     → side_total config seed c side ≤ side_total config seed c (opposite side) → number ≡ side_total config seed c side
-smaller_total config seed c Out number is fewer = omega arith
-smaller_total config seed c In number is fewer = omega arith
+number_of_fewer config seed c Out number is fewer = omega arith
+number_of_fewer config seed c In number is fewer = omega arith
 
 -- conforming triples use up the degrees of the smaller side
 pub SmallerSideIsMet-IsConforming : SmallerSideIsMet
@@ -140,5 +140,5 @@ SmallerSideIsMet-IsConforming config seed c side place triples conforms known lt
           (λ triple is. test-between _ _ _ _ count (is_node_at-triple config c side triple is)) own (All-filter_test (is_triple_of config c) triples);
       within = λ p below. conforms.degrees c side p known (rw count at below);
     } in
-    let number = smaller_total config seed c side (length own) (conforms.numbers c known) fewer in
+    let number = number_of_fewer config seed c side (length own) (conforms.numbers c known) fewer in
     MeetsDegrees-number (end_at side) nodes own keeps (omega (arith, number, sum-side_degrees config seed c side)) place (rw count lt)

@@ -4,14 +4,14 @@
 --   triples_of config c triples          the triples of constraint c
 --   HasOneConstraint config triple       a triple is one of exactly one constraint
 --   IsConforming config seed triples     triples keep to the constraints, and their nodes to the drawn degrees
-use Rattle.std.specs.Prelude.{◌≡◌, ℕ, ◌+◌, ◌<◌, ◌≤◌, Bool, ◌&&◌, ◌==◌, nat_lt, nat_le, List, length, min, slice_index, filter, All, count_by}
+use Rattle.std.specs.Prelude.{◌≡◌, ℕ, ◌+◌, ◌<◌, ◌≤◌, Bool, ◌&&◌, ◌==◌, nat_lt, nat_le, List, length, slice_index, filter, All, count_by}
 use Rattle.std.specs.List.{range_with_len}
 use Rattle.graph_text.specs.declared.graphs.Triple.{Triple}
 use Rattle.gm_config.specs.Config.{ConfigValue}
 use Rattle.edge_match.specs.declared.config_sides.Side.{Side}
 use Rattle.edge_match.specs.declared.config_sides.Side.TheVariants.{Out, In}
 use Rattle.edge_match.specs.ConfigSides.{label_at, side_first, side_count}
-use Rattle.edge_match.specs.DrawnDegrees.{side_degrees, side_total}
+use Rattle.edge_match.specs.DrawnDegrees.{side_degrees, smaller_total}
 use Rattle.edge_match.specs.Conforming.{edges_at}
 
 -- a node is one of the type whose nodes stand at a side of constraint c
@@ -42,4 +42,4 @@ pub record IsConforming (config : ConfigValue) (seed : ℕ) (triples : List Trip
   pub degrees : (c : ℕ) (side : Side) (place : ℕ) → c < length config.constraints → place < side_count config c side
       → edges_at (end_at side) (triples_of config c triples) (side_first config c side + place) ≤ slice_index (side_degrees config seed c side) place
   pub numbers : (c : ℕ) → c < length config.constraints
-      → length (triples_of config c triples) ≡ min (side_total config seed c Out) (side_total config seed c In)
+      → length (triples_of config c triples) ≡ smaller_total config seed c

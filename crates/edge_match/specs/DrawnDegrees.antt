@@ -6,9 +6,10 @@
 --   table_total config seed c side      their sum
 --   side_degrees config seed c side     the degrees of the nodes of any side
 --   side_total config seed c side       the number of stubs of any side
+--   smaller_total config seed c         the smaller of the two totals of a constraint
 --   node_degrees config seed c side     the nodes of a side, and their degrees
 --   side_stubs config seed c side       the stubs of a side
-use Rattle.std.specs.Prelude.{ℕ, ◌==◌, List, map, sum, if◌then◌else◌}
+use Rattle.std.specs.Prelude.{ℕ, ◌==◌, List, map, min, sum, if◌then◌else◌}
 use Rattle.std.specs.List.{range_with_len}
 use Rattle.seeded_draw.specs.Draw.{word, stream_of, pick_of}
 use Rattle.degree_table.specs.DegreeTable.{WeightedDegrees, table_of, degree_of}
@@ -65,6 +66,10 @@ abbrev pub side_total : ConfigValue → (seed c : ℕ) → Side → ℕ
 side_total config seed c side = if is_free config c side
     then (if side_count config c side == 0 then 0 else table_total config seed c (opposite side))
     else table_total config seed c side
+
+-- the smaller of the two totals of a constraint
+abbrev pub smaller_total : ConfigValue → (seed c : ℕ) → ℕ
+smaller_total config seed c = min (side_total config seed c Out) (side_total config seed c In)
 
 -- the nodes of a side, and their degrees
 abbrev pub node_degrees : ConfigValue → (seed c : ℕ) → Side → NodeDegrees

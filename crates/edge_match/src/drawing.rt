@@ -4,7 +4,7 @@ ghost use Rattle.std.specs.Prelude.{◌≡◌, ◌<◌, ◌≤◌, ℕ, false, t
 ghost use Rattle.gm_config.specs.Limits.{nodes_most};
 ghost use Rattle.edge_match.specs.ConfigSides.{opposite, is_free};
 ghost use Rattle.edge_match.specs.declared.errors.TooManyStubs.{TooManyStubs};
-ghost use Rattle.edge_match.specs.DrawnDegrees.{degrees_by, table_degrees, table_total, side_degrees, side_total};
+ghost use Rattle.edge_match.specs.DrawnDegrees.{degrees_by, table_degrees, table_total, side_degrees, side_total, smaller_total};
 ghost use Rattle.edge_match.specs.StubLimit.{stubs_most};
 ghost use Rattle.edge_match.specs.Limit.{too_many, side_over, first_side_over, IsWithinLimit, IsFirstOver};
 
@@ -36,6 +36,37 @@ pub fn side_total(
 {
     let degrees = table_degrees(alloc, config, seed, c, side)?;
     Ok(total_of(&degrees))
+}
+
+/// The number of edges of a constraint: the smaller of the numbers of stubs of its two sides. `c` is the number of the
+/// constraint. It fails only where memory runs out.
+pub fn smaller_total(alloc: Global, config: &Config, seed: u64, c: u8) -> Result<u64, AllocError>
+    requires known { c < length config.now.constraints }
+    ensures { IfOk result (λ total. total ≡ smaller_total config.now seed c) }
+{
+    let outs = stub_count(alloc, config, seed, c, Side::Out)?;
+    let ins = stub_count(alloc, config, seed, c, Side::In)?;
+    Ok(outs.min(ins))
+}
+
+/// The number of stubs of a side: a free one has as many as the other side, or none where it has no node.
+fn stub_count(
+    alloc: Global,
+    config: &Config,
+    seed: u64,
+    c: u8,
+    side: Side,
+) -> Result<u64, AllocError>
+    requires known { c < length config.now.constraints }
+    ensures { IfOk result (λ total. total ≡ side_total config.now seed c side) }
+{
+    if !is_free(config, c, side) {
+        return side_total(alloc, config, seed, c, side);
+    }
+    if count_of(config, c, side) == 0 {
+        return Ok(0);
+    }
+    side_total(alloc, config, seed, c, side.opposite())
 }
 
 /// The first side that is not free and whose total is above 4,194,304, by constraint, and out before in.

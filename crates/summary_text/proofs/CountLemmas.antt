@@ -12,11 +12,12 @@ use Rattle.gm_config.specs.Config.{ConfigValue}
 use Rattle.edge_match.specs.declared.config_sides.Side.TheVariants.{Out, In}
 use Rattle.edge_match.specs.AllEdges.{AreEdgesOf}
 use Rattle.edge_match.specs.ConformingGraph.{triples_of, IsConforming}
+use Rattle.edge_match.specs.DrawnDegrees.{smaller_total}
 use Rattle.edge_match.proofs.RangeLemmas.{Conforms-AreEdgesOf}
 use Rattle.edge_match.proofs.TotalLemmas.{sum-side_degrees}
 use Rattle.query_terms.specs.Values.{QueryValue}
 use Rattle.summary_text.specs.Summary.{SummaryValue, with_constraint, class_total, HasRoom}
-use Rattle.summary_text.specs.Counts.{is_class, queries_of_class, edge_counts, summary_with, summary_of, smaller_total, smaller_totals, drawn_summary}
+use Rattle.summary_text.specs.Counts.{is_class, queries_of_class, edge_counts, summary_with, summary_of, drawn_summary}
 use Rattle.summary_text.specs.Laws.{with_class_of}
 
 -- ---- classes
@@ -130,9 +131,14 @@ pub length-AreEdgesOf : (config : ConfigValue) (seed c : ℕ) (own : List Triple
 length-AreEdgesOf config seed c own are =
     rw (sum-side_degrees config seed c Out, sum-side_degrees config seed c In) at (Conforms-AreEdgesOf config seed c own are).number
 
+-- its smaller total is the next number
+pub total-counted : (config : ConfigValue) (seed n : ℕ) (queries : List QueryValue)
+    → drawn_summary config seed (n + 1) queries ≡ with_constraint (smaller_total config seed n) (drawn_summary config seed n queries)
+total-counted config seed n queries =
+    ap (λ (edges : List ℕ). summary_with edges queries) (map-range_with_len_more (smaller_total config seed) 0 n n (omega arith))
+
 pub constraint-counted : (config : ConfigValue) (seed n : ℕ) (own : List Triple) (queries : List QueryValue) → AreEdgesOf config seed n own
     → drawn_summary config seed (n + 1) queries ≡ with_constraint (length own) (drawn_summary config seed n queries)
 constraint-counted config seed n own queries are =
-    ap (λ (edges : List ℕ). summary_with edges queries)
-    (map-range_with_len_more (smaller_total config seed) 0 n n (omega arith)
-    ∙ ap (λ k. smaller_totals config seed n ++ k ∷ []) (sym (length-AreEdgesOf config seed n own are)))
+    total-counted config seed n queries
+    ∙ ap (λ k. with_constraint k (drawn_summary config seed n queries)) (sym (length-AreEdgesOf config seed n own are))

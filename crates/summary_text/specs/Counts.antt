@@ -4,17 +4,15 @@
 --   edge_counts config triples    for each constraint the number of the triples that are of it
 --   summary_with ns qs            the summary of these numbers of edges, and of queries
 --   summary_of config triples qs  the summary of triples and queries
---   smaller_total config seed c   the smaller of the two totals of a constraint
 --   smaller_totals config seed n  those of the first n constraints
 --   drawn_summary config seed n qs  the first n constraints have these, and the classes are those of queries
-use Rattle.std.specs.Prelude.{ℕ, Bool, true, false, List, length, map, min, filter, Option, Some}
+use Rattle.std.specs.Prelude.{ℕ, Bool, true, false, List, length, map, filter, Option, Some}
 use Rattle.std.specs.List.{range_with_len}
 use Rattle.sel_algebra.specs.declared.vocabulary.Class.{Class}
 use Rattle.sel_algebra.specs.declared.vocabulary.Class.TheVariants.{Constant, Linear, Quadratic}
 use Rattle.graph_text.specs.declared.graphs.Triple.{Triple}
 use Rattle.gm_config.specs.Config.{ConfigValue}
-use Rattle.edge_match.specs.declared.config_sides.Side.TheVariants.{Out, In}
-use Rattle.edge_match.specs.DrawnDegrees.{side_total}
+use Rattle.edge_match.specs.DrawnDegrees.{smaller_total}
 use Rattle.edge_match.specs.ConformingGraph.{triples_of}
 use Rattle.query_terms.specs.Values.{QueryValue}
 use Rattle.summary_text.specs.Summary.{SummaryValue}
@@ -48,10 +46,6 @@ abbrev pub summary_of : ConfigValue → List Triple → List QueryValue → Summ
 summary_of config triples queries = summary_with (edge_counts config triples) queries
 
 -- ---- as drawn
-
--- the smaller of the two totals of a constraint
-abbrev pub smaller_total : ConfigValue → (seed c : ℕ) → ℕ
-smaller_total config seed c = min (side_total config seed c Out) (side_total config seed c In)
 
 -- the smaller totals of the first n constraints
 abbrev pub smaller_totals : ConfigValue → (seed n : ℕ) → List ℕ
