@@ -34,7 +34,7 @@ use Rattle.gm_top.specs.Workload.{queries_of, workload_of}
 use Rattle.gm_config.specs.Sample.{sample_of}
 use Rattle.summary_text.specs.Summary.{summary_text_of}
 use Rattle.summary_text.specs.Counts.{summary_of}
-use Rattle.gm_top.proofs.SampleLemmas.{summary-drawn, summary-adds_up}
+use Rattle.gm_top.proofs.SampleLemmas.{sample-accepted, summary-drawn, summary-adds_up}
 use Rattle.gm_top.specs.Laws.{Refuses, DefinesFiles}
 use Rattle.gm_top.proofs.DecisionLemmas.{decides-files, IsAccepted-IsDecision}
 use Rattle.gm_top.proofs.GraphLemmas.{graph_text-some}
@@ -184,8 +184,8 @@ is_decided command asked bytes (Ok work) decided =
 pub every_input_is_decided : (command : Command) → CanBeAsked command → (bytes : List ℕ) → ((refusal : Outcome) × Refuses command bytes refusal) ⊎ ((files : FileList) × DefinesFiles command bytes files)
 every_input_is_decided command asked bytes = let decision = IsDecision-some command bytes in is_decided command asked bytes decision.0 decision.1
 
-pub samples_are_never_refused : (k : ℕ) (bytes : List ℕ) (refusal : Outcome) → ¬ Refuses (Sample k) bytes refusal
-samples_are_never_refused k bytes refusal is = not_ok (record { config = sample_of k; seed = k }) refusal is
+pub samples_are_never_refused : (k : ℕ) → CanBeAsked (Sample k) → IsAcceptedFor (sample_of k) k × ((bytes : List ℕ) (refusal : Outcome) → ¬ Refuses (Sample k) bytes refusal)
+samples_are_never_refused k asked = (sample-accepted k asked.0 asked.1, λ bytes refusal is. not_ok (record { config = sample_of k; seed = k }) refusal is)
   where
     not_ok : (g : GenerationValue) (refusal : Outcome) → ◌≡◌ {A = Result Work Outcome} (Err refusal) (Ok (Sampled g)) → ⊥
     not_ok g refusal same = cc

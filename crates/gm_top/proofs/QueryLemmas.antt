@@ -2,15 +2,14 @@
 use Rattle.std.proofs.Common.{◌≡◌, ◌∙◌, ℕ, ◌+◌, ◌<◌, List, [], ◌∷◌, ◌++◌, length, take, drop, Option, Some, slice_get, refl, ap, sym, subst, arith}
 use Rattle.std.proofs.lemmas.List.{take-append-drop, length-take, take_all}
 use Rattle.std.proofs.lemmas.List.FromFn.{get_or-map-range_with_len, length-map-range_with_len}
-use Rattle.std.proofs.lemmas.Option.{slice_get-get_or, slice_get_within, get_or_from_slice_get}
-use Rattle.std.proofs.lemmas.List.Elements.{All-get_or}
+use Rattle.std.proofs.lemmas.Option.{slice_get-get_or, slice_get_within}
 use Rattle.gm_io.specs.FileList.{FileList}
 use Rattle.gm_files.specs.declared.texts.QueryFile.{QueryFile}
 use Rattle.gm_files.specs.declared.texts.QueryFile.TheVariants.{Sparql, Sql}
 use Rattle.gm_config.specs.Config.{ConfigValue}
 use Rattle.query_terms.specs.Values.{QueryValue}
 use Rattle.workload_text.specs.Head.{head_of}
-use Rattle.workload_text.specs.Values.{HeadValue, WorkValue, IsQuery, IsWork}
+use Rattle.workload_text.specs.Values.{HeadValue}
 use Rattle.query_draw.specs.Query.{query_of}
 use Rattle.query_texts.specs.Texts.{text_of}
 use Rattle.workload_text.proofs.HeadLemmas.{take-more}
@@ -112,12 +111,6 @@ drawn-at config seed number within =
 
 pub drawn-count : (config : ConfigValue) (seed : ℕ) → length (queries_of config seed) ≡ config.workload.queries
 drawn-count config seed = length-map-range_with_len (query_of config seed) 0 config.workload.queries
-
--- a query of a workload keeps the rules of its head
-pub query-keeps : (v : WorkValue) (number : ℕ) (q : QueryValue) → IsWork v → slice_get v.queries number ≡ Some q → IsQuery v.head q
-query-keeps v number q is at =
-    let within = slice_get_within v.queries number q at in
-    subst (IsQuery v.head) (get_or_from_slice_get v.queries number q q at) (All-get_or (IsQuery v.head) v.queries number q within is.each)
 
 -- what is known of the outputs of a query under a head that was lent is known of those under the head that lends it
 pub under-head : (P : List Output → Type 0) (lent own : HeadValue) (number : ℕ) (q : QueryValue) → lent ≡ own → P (pair_of lent.labels number q) → P (pair_of own.labels number q)

@@ -36,24 +36,6 @@ pub sample-accepted : (k : ℕ) → 1 ≤ k → k ≤ 100 → IsAcceptedFor (sam
 sample-accepted k some few =
     record { rules = IsConfig-sample_of k some few; queries = λ number within. sample_has_query k k number; sides = sample-within_limit k k few }
 
--- ---- the edges of a constraint
-
--- they are few where no side has too many stubs
-smaller_total-few : (config : ConfigValue) (seed c : ℕ) → IsConfig config → c < length config.constraints → first_side_over config seed c ≡ None
-    → smaller_total config seed c ≤ stubs_most
-smaller_total-few config seed c rules known none =
-    elim (cases_Bool (is_free config c Out)) [
-      | inl free ↦
-          let drawn = is_free-opposite config c Out rules known free in
-          omega (arith, table_total-within config seed c In none drawn, side_total-drawn config seed c In drawn)
-      | inr drawn ↦ omega (arith, table_total-within config seed c Out none drawn, side_total-drawn config seed c Out drawn)
-    ]
-
-pub edges-few : (config : ConfigValue) (seed c : ℕ) (own : List Triple) → IsConfig config → c < length config.constraints → first_side_over config seed c ≡ None
-    → AreEdgesOf config seed c own → length own < 2 ^ 64
-edges-few config seed c own rules known none are =
-    omega (arith, length-AreEdgesOf config seed c own are, smaller_total-few config seed c rules known none)
-
 -- ---- the queries
 
 module _ (config : ConfigValue) (seed : ℕ) where

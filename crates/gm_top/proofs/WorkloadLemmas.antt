@@ -1,10 +1,11 @@
 -- The text of a workload, and the classes of its queries.
-use Rattle.std.proofs.Common.{◌≡◌, ◌∙◌, ℕ, zero, suc, ◌+◌, ◌-◌, ◌<◌, List, [], ◌∷◌, ◌++◌, length, map, refl, ap, sym, subst, true, false, if◌then◌else◌, Option, Some, None, Result, Ok, Err, IfErr, IsErrAnd, append_assoc, append-nil, arith}
+use Rattle.std.proofs.Common.{◌≡◌, ◌∙◌, ℕ, zero, suc, ◌+◌, ◌-◌, ◌<◌, List, [], ◌∷◌, ◌++◌, length, map, slice_get, refl, ap, sym, subst, true, false, if◌then◌else◌, Option, Some, None, Result, Ok, Err, IfErr, IsErrAnd, append_assoc, append-nil, arith}
 use Rattle.std.specs.List.{range_with_len}
 use Rattle.std.proofs.lemmas.Grind.{flat_map-append}
 use Rattle.std.proofs.lemmas.Option.{get_or_from_slice_get, slice_get_within}
 use Rattle.std.proofs.lemmas.List.FromFn.{get_or-map-range_with_len, length-map-range_with_len, map-range_with_len_more}
 use Rattle.gm_config.specs.Config.{ConfigValue, IsConfig}
+use Rattle.sel_algebra.specs.declared.vocabulary.Class.TheVariants.{Constant}
 use Rattle.query_terms.specs.Values.{QueryValue}
 use Rattle.query_draw.specs.Query.{has_query, query_of, drawn_query}
 use Rattle.query_draw.specs.Refusals.{IsRefusal}
@@ -96,8 +97,10 @@ module _ (config : ConfigValue) (seed : ℕ) where
     none = λ other. (rw other refl, rw other refl);
   }
 
-  pub workload-classes : IsConfig config → CanDraw config seed → HaveClasses config seed (workload_of config seed)
-  workload-classes rules can number q found =
+  -- what is true of each query that can be drawn is true of each query of the workload
+  drawn-of : (P : ℕ → QueryValue → Type 0) → ((number : ℕ) → has_query config seed number ≡ true → P number (query_of config seed number)) → CanDraw config seed
+      → (number : ℕ) (q : QueryValue) → slice_get (queries_of config seed) number ≡ Some q → P number q
+  drawn-of P each can number q found =
       let f = query_of config seed in
       let n = config.workload.queries in
       let inside = slice_get_within (queries_of config seed) number q found in
@@ -105,19 +108,14 @@ module _ (config : ConfigValue) (seed : ℕ) where
       let within : number < n = omega (arith, inside, long) in
       let is : f number ≡ q =
       sym (get_or-map-range_with_len f 0 n number number q within (omega arith)) ∙ get_or_from_slice_get (queries_of config seed) number q q found in
-      subst (HasClasses config seed number (schema_of config)) is (drawn-classes rules number (can number within))
+      subst (P number) is (each number (can number within))
+
+  pub workload-classes : IsConfig config → CanDraw config seed → HaveClasses config seed (workload_of config seed)
+  workload-classes rules can = drawn-of (λ number q. HasClasses config seed number (schema_of config) q) (drawn-classes rules) can
 
   -- where its wide class is constant, a drawn query is bounded
   pub workload-bounded : IsConfig config → CanDraw config seed → AreBounded config (workload_of config seed)
-  workload-bounded rules can number q found wide =
-      let f = query_of config seed in
-      let n = config.workload.queries in
-      let inside = slice_get_within (queries_of config seed) number q found in
-      let long = length-map-range_with_len f 0 n in
-      let within : number < n = omega (arith, inside, long) in
-      let is : f number ≡ q =
-      sym (get_or-map-range_with_len f 0 n number number q within (omega arith)) ∙ get_or_from_slice_get (queries_of config seed) number q q found in
-      subst (IsBounded config) is (constant_queries_are_bounded config rules seed number (can number within) (ap (λ (q : QueryValue). q.wide) is ∙ wide))
+  workload-bounded rules can = drawn-of (λ number q. q.wide ≡ Some Constant → IsBounded config q) (constant_queries_are_bounded config rules seed) can
 
   -- ---- the file
 

@@ -4,7 +4,7 @@
 --   EveryInputIsDecided                   every input of a command that can be asked for is refused, or defines files
 --   DecisionsAreOne                       no input has two decisions
 --   FilesAreOne                           no input defines two lists of files
---   SamplesAreNeverRefused                no sample is refused
+--   SamplesAreNeverRefused                no sample is refused, and none has a cause to be
 --   AcceptedInputsAskForFiles             a configuration whose queries can be drawn and that is within the limit is not refused
 use Rattle.std.specs.Prelude.{◌≡◌, ◌⊎◌, ℕ, List, None, Result, Ok, Err}
 use Rattle.serde_json.specs.Data.{Data}
@@ -13,7 +13,8 @@ use Rattle.gm_config.specs.Reading.{Reads, config_of}
 use Rattle.gm_config.specs.Rule.{first_broken}
 use Rattle.gm_config.specs.Rules.{rules}
 use Rattle.edge_match.specs.Limit.{IsWithinLimit}
-use Rattle.gm_top.specs.Generation.{CanDraw}
+use Rattle.gm_config.specs.Sample.{sample_of}
+use Rattle.gm_top.specs.Generation.{CanDraw, IsAcceptedFor}
 use Rattle.gm_top.specs.declared.commands.Command.{Command}
 use Rattle.gm_top.specs.declared.commands.Command.TheVariants.{Generate, Sample}
 use Rattle.gm_top.specs.declared.outcomes.Outcome.{Outcome}
@@ -37,9 +38,11 @@ EveryInputIsDecided = (command : Command) → CanBeAsked command → (bytes : Li
     → ((refusal : Outcome) × Refuses command bytes refusal)
     ⊎ ((files : FileList) × DefinesFiles command bytes files)
 
--- no sample is refused: its queries can be drawn, and no side has too many stubs
+-- no sample is refused, and none has a cause to be: its configuration keeps the rules, each of its queries can be drawn,
+-- and no side has too many stubs
 abbrev pub SamplesAreNeverRefused : Type 0
-SamplesAreNeverRefused = (k : ℕ) (bytes : List ℕ) (refusal : Outcome) → ¬ Refuses (Sample k) bytes refusal
+SamplesAreNeverRefused = (k : ℕ) → CanBeAsked (Sample k)
+    → IsAcceptedFor (sample_of k) k × ((bytes : List ℕ) (refusal : Outcome) → ¬ Refuses (Sample k) bytes refusal)
 
 -- no input has two decisions
 abbrev pub DecisionsAreOne : Type 0

@@ -8,7 +8,7 @@ pub fn every_input_is_decided()
     ensures { EveryInputIsDecided }
 {}
 
-/// `sample` refuses nothing.
+/// `sample` refuses nothing: its queries can be drawn, and no side has too many stubs.
 pub fn samples_are_never_refused()
     ensures { SamplesAreNeverRefused }
 {}

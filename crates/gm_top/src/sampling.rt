@@ -21,7 +21,7 @@ use crate::generation::Generation;
 use crate::outcomes::Outcome;
 use crate::work::Work;
 use crate::workload_file::emptied;
-use edge_match::EdgeStream;
+use edge_match::smaller_total;
 use gm_config::{Config, sample_config};
 use gm_files::put_file;
 use gm_io::Folder;
@@ -130,22 +130,9 @@ fn count_constraints(
     ensures stops { IfErr result (λ outcome. outcome ≡ Outcome.NoMemory) }
 {
     for c in 0..config.constraint_count() {
-        let edges = EdgeStream::new(alloc, config, seed, c)?;
-        counted.add_constraint(alloc, edge_count(edges))?;
+        counted.add_constraint(alloc, smaller_total(alloc, config, seed, c)?)?;
     }
     Ok(())
-}
-
-/// The number of edges that are still to come.
-fn edge_count(mut edges: EdgeStream) -> u64
-    requires few { length edges < 2 ^ 64 }
-    ensures { result ≡ length edges }
-{
-    let mut count = 0;
-    while let Some(_) = edges.next_edge() {
-        count += 1;
-    }
-    count
 }
 
 /// Counts the drawn queries of each class.

@@ -1,14 +1,15 @@
 -- What the rules of a head say of all conjuncts of a query.
-use Rattle.std.proofs.Common.{◌≡◌, ℕ, ◌*◌, ◌<◌, ◌≤◌, Bool, true, ◌&&◌, nat_lt, nat_le, List, [], ◌∷◌, length, All, refl, ap, ◌∙◌, arith}
+use Rattle.std.proofs.Common.{◌≡◌, ℕ, ◌*◌, ◌<◌, ◌≤◌, Bool, true, ◌&&◌, nat_lt, nat_le, List, [], ◌∷◌, length, All, Some, slice_get, refl, ap, subst, ◌∙◌, arith}
 use Rattle.std.specs.List.{list_all}
 use Rattle.std.proofs.lemmas.Bool.{and_parts}
 use Rattle.std.proofs.lemmas.Bool.Decides.{nat_tests}
 use Rattle.std.proofs.lemmas.List.{length-append, length-map}
 use Rattle.std.proofs.lemmas.List.Folds.{list_all-append}
-use Rattle.std.proofs.lemmas.List.Elements.{All-head, All-tail}
+use Rattle.std.proofs.lemmas.List.Elements.{All-get_or, All-head, All-tail}
+use Rattle.std.proofs.lemmas.Option.{slice_get_within, get_or_from_slice_get}
 use Rattle.schema_graph.specs.declared.edge.SchemaEdge.{SchemaEdge}
 use Rattle.query_terms.specs.Values.{ConjunctValue, RuleValue, QueryValue, is_conjunct, is_rule, are_rules, has_heads, conjuncts_of}
-use Rattle.workload_text.specs.Values.{HeadValue, IsConjunct, IsRule, IsQuery}
+use Rattle.workload_text.specs.Values.{HeadValue, WorkValue, IsConjunct, IsRule, IsQuery, IsWork}
 
 pub both : (a b : Bool) → a ≡ true → b ≡ true → (a && b) ≡ true
 both a b p q = cc
@@ -63,3 +64,9 @@ conjuncts-are edges (r ∷ rules) all =
     let rule = and_parts (nat_lt 0 (length r.conjuncts) && list_all (is_conjunct edges) r.conjuncts) (has_heads r) parts.0 in
     list_all-append (is_conjunct edges) r.conjuncts (conjuncts_of rules)
     ∙ both _ _ (and_parts (nat_lt 0 (length r.conjuncts)) (list_all (is_conjunct edges) r.conjuncts) rule.0).1 (conjuncts-are edges rules parts.1)
+
+-- a query of a workload keeps the rules of its head
+pub query-keeps : (v : WorkValue) (h : HeadValue) (number : ℕ) (q : QueryValue) → IsWork v → h ≡ v.head → slice_get v.queries number ≡ Some q → IsQuery h q
+query-keeps v h number q is head at =
+    let own = All-get_or (IsQuery v.head) v.queries number q (slice_get_within v.queries number q at) is.each in
+    rw head (subst (IsQuery v.head) (get_or_from_slice_get v.queries number q q at) own)

@@ -3,7 +3,8 @@ use Rattle.query_terms.specs.View.{query_value}
 use Rattle.gm_top.specs.Outputs.{MakesFiles, MakesPart, TakesCalls, TakesCallsWithin}
 use Rattle.gm_top.proofs.GraphLemmas.{OnErr-all}
 use Rattle.gm_top.proofs.OutputLemmas.{MakesFiles-none, TakesCalls-none}
-use Rattle.gm_top.proofs.QueryLemmas.{query-keeps, under-head, files-more, part-more, calls-more, part_calls-more, files-all, calls-all}
+use Rattle.query_texts.proofs.RuleLemmas.{query-keeps}
+use Rattle.gm_top.proofs.QueryLemmas.{under-head, files-more, part-more, calls-more, part_calls-more, files-all, calls-all}
 use Rattle.gm_top.proofs.translating.written.Goals as goal
 
 pub loop-number-init : goal.loop-number-init
@@ -11,8 +12,7 @@ loop-number-init g c = record { files = MakesFiles-none _; calls = TakesCalls-no
 
 pub write_query-requires-clause-kept : goal.write_query-requires-clause-kept
 write_query-requires-clause-kept g c =
-    let v = c.args.work.now in
-    rw c.head-head.ensures.head (query-keeps v c.loop-number.number (query_value c.query.result.now) c.query.ensures.work c.query.ensures.query)
+    query-keeps c.args.work.now c.head-head.result.now c.loop-number.number (query_value c.query.result.now) c.query.ensures.work c.head-head.ensures.head c.query.ensures.query
 
 pub loop-number-preserved : goal.loop-number-preserved
 loop-number-preserved g c =

@@ -1,5 +1,5 @@
 use Rattle.query_terms.specs.View.{query_value}
-use Rattle.query_texts_tests.proofs.WorkLemmas.{query-keeps}
+use Rattle.query_texts.proofs.RuleLemmas.{query-keeps}
 use Rattle.query_texts_tests.proofs.texts_tests.text_of.Goals as goal
 
 pub query_text-requires : goal.query_text-requires
