@@ -1,13 +1,16 @@
 -- A store: a term that is there is found, and one that isn't goes last.
-use Rattle.std.proofs.Common.{◌≡◌, ◌≢◌, ℕ, zero, suc, ◌+◌, ◌<◌, ◌≤◌, true, nat_lt, List, [], ◌∷◌, ◌++◌, length, slice_get, get_or, Option, Some, None, unwrap_or, refl, sym, ap, subst, ◌∙◌, if◌then◌else◌, true≢false, arith, inl, inr}
+use Rattle.std.proofs.Common.{◌≡◌, ◌≢◌, ℕ, zero, suc, ◌+◌, ◌<◌, ◌≤◌, true, false, nat_lt, List, [], ◌∷◌, ◌++◌, length, take, slice_get, get_or, Some, refl, sym, ap, subst, ◌∙◌, if◌then◌else◌, true≢false, arith, inl, inr}
 use Rattle.std.proofs.lemmas.Bool.{cases_Bool, cases_lt, lt-ltb, le-ltb}
-use Rattle.std.proofs.lemmas.List.{length-append, get_or_push, get_or_append_left}
+use Rattle.std.proofs.lemmas.List.{length-append, length-take-le, take_more, get_or_push, get_or_append_left, get_or-take, get_or_default}
+use Rattle.std.proofs.lemmas.List.Folds.{list_any_none}
+use Rattle.std.proofs.lemmas.List.Recursion.{is_position_or_len}
 use Rattle.std.proofs.lemmas.Option.{slice_get_within, slice_get-get_or, get_or_from_slice_get}
 use Rattle.std.proofs.lemmas.List.Quantifiers.{all_pairs_push}
-use Rattle.std.specs.Map.{lookup}
+use Rattle.std.specs.List.{list_any, position_or_len}
+use Rattle.indexmap.specs.IndexSet.{insert_key}
 use Rattle.query_terms.specs.contracts.terms.TermPartialEq.TheImpl.{eq-value}
 use Rattle.query_terms.specs.declared.terms.Term.{Term}
-use Rattle.query_terms.specs.Store.{ChildrenBelow, IsStore, IsIndexed, is_term, number_of, put_of, with_numbers, terms_most}
+use Rattle.query_terms.specs.Store.{ChildrenBelow, IsStore, IsFull, is_term, number_of, put_of, terms_most}
 
 -- the test of the code is that of the definition
 same_test : (a b : Term) → eq-value.it a b ≡ is_term a b
@@ -19,23 +22,25 @@ term_is a b = grind arith
 is_term-self : (a : Term) → is_term a a ≡ true
 is_term-self a = grind arith
 
--- what the index has for a term
-abbrev found : List Term → Term → ℕ → Option ℕ
-found terms term n = if nat_lt (number_of terms term) (length terms) then Some (n + number_of terms term) else None
-
-found-later : (k l n : ℕ) → (if nat_lt k l then Some (n + 1 + k) else None) ≡ (if nat_lt (suc k) (suc l) then Some (n + suc k) else None)
-found-later k l n = elim (cases_lt k l) [
-  | inl less ↦ rw (lt-ltb k l less, lt-ltb (suc k) (suc l) (omega (arith, less))) (ap Some (omega arith))
+below-suc : (k l : ℕ) → nat_lt k l ≡ nat_lt (suc k) (suc l)
+below-suc k l = elim (cases_lt k l) [
+  | inl less ↦ rw (lt-ltb k l less, lt-ltb (suc k) (suc l) (omega (arith, less))) refl
   | inr most ↦ rw (le-ltb k l most, le-ltb (suc k) (suc l) (omega (arith, most))) refl
 ]
 
-lookup-with_numbers : (n : ℕ) (terms : List Term) (term : Term) → lookup (eq-value.it term) (with_numbers n terms) ≡ found terms term n
-lookup-with_numbers n [] term = refl
-lookup-with_numbers n (t ∷ terms) term = elim (cases_Bool (is_term term t)) [
-  | inl hit ↦ rw (same_test term t, hit, lt-ltb 0 (suc (length terms)) (omega arith)) (ap Some (omega arith))
-  | inr miss ↦ rw (same_test term t, miss)
-      (lookup-with_numbers (n + 1) terms term ∙ found-later (number_of terms term) (length terms) n)
+-- whether the index has a term, and where
+is_there : (terms : List Term) (term : Term) → list_any (eq-value.it term) terms ≡ nat_lt (number_of terms term) (length terms)
+is_there [] term = refl
+is_there (t ∷ terms) term = elim (cases_Bool (is_term term t)) [
+  | inl hit ↦ rw (same_test term t, hit, lt-ltb 0 (suc (length terms)) (omega arith)) refl
+  | inr miss ↦ rw (same_test term t, miss) (is_there terms term ∙ below-suc (number_of terms term) (length terms))
 ]
+
+one-more : (n : ℕ) → suc n ≡ 1 + n
+one-more n = omega arith
+
+number_is : (terms : List Term) (term : Term) → position_or_len (eq-value.it term) terms ≡ number_of terms term
+number_is terms term = sym (is_position_or_len (λ xs. number_of xs term) (eq-value.it term) refl (λ t xs. rw (same_test term t) (ap (λ n. if is_term term t then 0 else n) (one-more (number_of xs term)))) terms)
 
 number_of-most : (terms : List Term) (term : Term) → number_of terms term ≤ length terms
 number_of-most [] term = omega arith
@@ -61,51 +66,6 @@ number_of-absent (t ∷ terms) term most (suc k) d within = elim (cases_Bool (is
   | inl hit ↦ absurd (omega (arith, (rw hit at most)))
   | inr miss ↦ number_of-absent terms term (omega (arith, (rw miss at most))) k d (omega (arith, within))
 ]
-
-with_numbers-push : (n : ℕ) (terms : List Term) (term : Term) → with_numbers n (terms ++ term ∷ []) ≡ with_numbers n terms ++ (term, n + length terms) ∷ []
-with_numbers-push n [] term = ap (λ k. (term, k) ∷ []) (omega arith)
-with_numbers-push n (t ∷ terms) term =
-    ap (λ es. (t, n) ∷ es) (with_numbers-push (n + 1) terms term ∙ ap (λ k. with_numbers (n + 1) terms ++ (term, k) ∷ []) (omega arith))
-
-no_value : {m : ℕ} → None ≡ Some m → ⊥
-no_value {m} h = grind (arith, h)
-
-found-there : (terms : List Term) (term : Term) (m : ℕ) → found terms term 0 ≡ Some m → number_of terms term < length terms
-found-there terms term m at = elim (cases_lt (number_of terms term) (length terms)) [
-  | inl less ↦ less
-  | inr most ↦ absurd (no_value (rw (le-ltb _ _ most) at at))
-]
-
-found-is : (terms : List Term) (term : Term) → number_of terms term < length terms → found terms term 0 ≡ Some (number_of terms term)
-found-is terms term less = rw (lt-ltb _ _ less) (ap Some (omega arith))
-
-some_same : {m n : ℕ} → Some m ≡ Some n → m ≡ n
-some_same {m} h = ap (λ o. unwrap_or o m) h
-
--- a term that the index has: it is there, and putting it adds nothing
-pub put_there : (terms : List Term) (term : Term) (m : ℕ) → Some m ≡ lookup (eq-value.it term) (with_numbers 0 terms)
-    → (put_of terms term ≡ record { terms = terms; number = m }) × (slice_get terms m ≡ Some term)
-put_there terms term m at =
-    let is : found terms term 0 ≡ Some m = sym (at ∙ lookup-with_numbers 0 terms term) in
-    let less = found-there terms term m is in
-    let same : number_of terms term ≡ m = some_same (sym (found-is terms term less) ∙ is) in (
-      (λ i. record { terms = if lt-ltb _ _ less i then terms else terms ++ term ∷ []; number = same i }),
-      subst (λ k. slice_get terms k ≡ Some term) same (slice_get-get_or terms _ term less ∙ ap Some (number_of-there terms term term less)),
-    )
-
-absent : (terms : List Term) (term : Term) → lookup (eq-value.it term) (with_numbers 0 terms) ≡ None → length terms ≤ number_of terms term
-absent terms term none = elim (cases_lt (number_of terms term) (length terms)) [
-  | inl less ↦ absurd (no_value (rw (lt-ltb _ _ less) at (sym none ∙ lookup-with_numbers 0 terms term)))
-  | inr most ↦ most
-]
-
--- a term that it doesn't have: putting it adds it last
-pub put_new : (terms : List Term) (term : Term) → lookup (eq-value.it term) (with_numbers 0 terms) ≡ None
-    → put_of terms term ≡ record { terms = terms ++ term ∷ []; number = length terms }
-put_new terms term none =
-    let most = absent terms term none in
-    let same : number_of terms term ≡ length terms = omega (arith, most, number_of-most terms term) in
-    λ i. record { terms = if le-ltb _ _ most i then terms else terms ++ term ∷ []; number = same i }
 
 children-push : (terms : List Term) (term : Term) → IsStore terms → ChildrenBelow (length terms) term
     → (n : ℕ) (x : Term) → slice_get (terms ++ term ∷ []) n ≡ Some x → ChildrenBelow n x
@@ -136,24 +96,38 @@ put_is_new terms term most =
     let same : number_of terms term ≡ length terms = omega (arith, most, number_of-most terms term) in
     λ i. record { terms = if le-ltb _ _ most i then terms else terms ++ term ∷ []; number = same i }
 
--- and the store with its index stays one
-pub indexed_push : (terms : List Term) (entries more : List (Term × ℕ)) (term : Term) → IsIndexed terms entries → ChildrenBelow (length terms) term → length terms < terms_most
-    → lookup (eq-value.it term) entries ≡ None → more ≡ entries ++ (term, length terms) ∷ [] → IsIndexed (terms ++ term ∷ []) more
-indexed_push terms entries more term is below room none added =
-    let most = absent terms term (ap (lookup (eq-value.it term)) (sym is.index) ∙ none) in
-    let last : length terms ≡ 0 + length terms = omega arith in
-    let pushed = ap (λ k. with_numbers 0 terms ++ (term, k) ∷ []) last ∙ sym (with_numbers-push 0 terms term) in
-    record {
-      store = record {
-        children = children-push terms term is.store below;
-        differ = all_pairs_push (λ a b. a ≢ b) terms term is.store.differ (number_of-absent terms term most);
-      };
-      few = rw (length-append terms (term ∷ [])) (omega (arith, room));
-      index = added ∙ ap (λ es. es ++ (term, length terms) ∷ []) is.index ∙ pushed;
-    }
+-- what the index does with a term is what putting it does
+pub put_is : (terms : List Term) (term : Term) → put_of terms term ≡ record { terms = insert_key eq-value.it terms term; number = position_or_len (eq-value.it term) terms }
+put_is terms term = λ i. record {
+  terms = if sym (is_there terms term) i then terms else terms ++ term ∷ [];
+  number = sym (number_is terms term) i;
+}
 
--- what was pushed stands last
-pub last_there : (terms : List Term) (term : Term) → slice_get (terms ++ term ∷ []) (length terms) ≡ Some term
-last_there terms term =
-    slice_get-get_or (terms ++ term ∷ []) (length terms) term (rw (length-append terms (term ∷ [])) (omega arith))
-    ∙ ap Some (get_or_push terms term term (length terms) refl)
+-- and the store stays one
+pub full_put : (terms : List Term) (term : Term) → IsFull terms → ChildrenBelow (length terms) term → length terms < terms_most → IsFull (insert_key eq-value.it terms term)
+full_put terms term is below room = elim (cases_lt (number_of terms term) (length terms)) [
+  | inl less ↦ subst IsFull (ap (λ b. if b then terms else terms ++ term ∷ []) (sym (is_there terms term ∙ lt-ltb _ _ less))) is
+  | inr most ↦ subst IsFull (ap (λ b. if b then terms else terms ++ term ∷ []) (sym (is_there terms term ∙ le-ltb _ _ most))) (record {
+    store = store_push terms term is.store below most;
+    few = rw (length-append terms (term ∷ [])) (omega (arith, room));
+  })
+]
+
+is_term-differ : (a b : Term) → a ≢ b → is_term b a ≡ false
+is_term-differ a b differ = elim (cases_Bool (is_term b a)) [
+  | inl same ↦ absurd (differ (sym (term_is b a same)))
+  | inr other ↦ other
+]
+
+earlier-differs : (terms : List Term) (k : ℕ) (d : Term) (i : ℕ) (e : Term) → IsStore terms → k < length terms → i < k → get_or (take k terms) i e ≢ get_or terms k d
+earlier-differs terms k d i e is within before =
+    λ same. is.differ i k e before within (sym (get_or-take k terms i e before) ∙ (same ∙ get_or_default terms k d e within))
+
+-- the first terms of a store, and the next one
+pub index_next : (terms : List Term) (k : ℕ) (d : Term) → IsStore terms → k < length terms → insert_key eq-value.it (take k terms) (get_or terms k d) ≡ take (k + 1) terms
+index_next terms k d is within =
+    let new : list_any (eq-value.it (get_or terms k d)) (take k terms) ≡ false =
+    list_any_none (eq-value.it (get_or terms k d)) (take k terms) (λ i e inside.
+    same_test (get_or terms k d) (get_or (take k terms) i e) ∙ is_term-differ (get_or (take k terms) i e) (get_or terms k d) (earlier-differs terms k d i e is within
+    (omega (arith, inside, length-take-le k terms (omega (arith, within)))))) in
+    ap (λ b. if b then take k terms else take k terms ++ get_or terms k d ∷ []) new ∙ sym (take_more terms k d within)

@@ -5,9 +5,8 @@
 --   is_term term other      the terms are the same
 --   number_of terms term    the place of a term, or the number of the terms where it isn't there
 --   Placed, put_of          a list of terms with the number of one of them, as putting it gives them
---   with_numbers n terms    each term with its number
---   IsIndexed terms index   a store with an index from each term to its number
-use Rattle.std.specs.Prelude.{◌≡◌, ◌≢◌, ℕ, suc, ◌+◌, ◌-◌, ◌^◌, ◌<◌, ◌≤◌, Bool, true, false, not, ◌==◌, ◌&&◌, if◌then◌else◌, nat_lt, List, [], ◌∷◌, ◌++◌, length, slice_get, Some, ⊤, AllPairs}
+--   IsFull terms            a store of no more terms than can be numbered
+use Rattle.std.specs.Prelude.{◌≡◌, ◌≢◌, ℕ, suc, ◌-◌, ◌^◌, ◌<◌, ◌≤◌, Bool, true, false, not, ◌==◌, ◌&&◌, if◌then◌else◌, nat_lt, List, [], ◌∷◌, ◌++◌, length, slice_get, Some, ⊤, AllPairs}
 use Rattle.query_terms.specs.declared.terms.Term.{Term}
 use Rattle.query_terms.specs.declared.terms.Term.TheVariants.{Step, Seq, Alt, Star, Opt}
 
@@ -59,13 +58,7 @@ put_of terms term = record {
   number = number_of terms term;
 }
 
--- each term with its number, from a number on
-abbrev pub with_numbers : ℕ → List Term → List (Term × ℕ)
-with_numbers n [] = []
-with_numbers n (term ∷ terms) = (term, n) ∷ with_numbers (n + 1) terms
-
--- a store, with an index that has the number of each of its terms
-pub record IsIndexed (terms : List Term) (entries : List (Term × ℕ)) : Type 0 where
+-- the terms of a store that can number them
+pub record IsFull (terms : List Term) : Type 0 where
   pub store : IsStore terms
   pub few : length terms ≤ terms_most
-  pub index : entries ≡ with_numbers 0 terms

@@ -139,7 +139,7 @@ impl<'a> QueryBuilder<'a> {
         requires wide { is_some wide ≡ has_class self.rules }
         ensures { IfOk result (λ query. query_value query ≡ record { labels = self.entry.labels; shape = shape; class = class; wide = wide; rules = self.entry.rules }) }
     {
-        let terms = self.numbering.into_terms();
+        let terms = self.numbering.into_terms()?;
         let lists = self.layout.into_lists();
         Ok(Query {
             shape,

@@ -1,41 +1,54 @@
 //! A list of terms, each of which is there once.
 
 ghost use Rattle.std.specs.Prelude.{◌≡◌, ◌≤◌, ◌<◌, ◌+◌, length, slice_get, [], Some, IfOk, OnErr};
-ghost use Rattle.query_terms.specs.Store.{terms_most, ChildrenBelow, IsStore, put_of};
+ghost use Rattle.query_terms.specs.Store.{terms_most, ChildrenBelow, IsStore, IsFull, put_of};
+ghost use Rattle.query_terms.specs.Kept.{terms_in};
 
 use crate::terms::{Term, TermId};
 use gm_text::Arena;
-use indexmap::IndexMap;
+use indexmap::IndexSet;
 use std::alloc::{AllocError, Global};
 use std::marker::Model;
 
 /// Terms, numbered from 0. The parts of a term have smaller numbers, and no two terms are equal.
 #[derive(Drop)]
 pub struct TermStore<'a> {
-    terms: Vec<Term, &'a Arena>,
-    index: IndexMap<Term, u32>,
+    alloc: Global,
+    arena: &'a Arena,
+    terms: Terms<'a>,
+}
+
+/// The terms of a store, in the order of their numbers.
+#[derive(Drop)]
+pub(crate) enum Terms<'a> {
+    /// With an index that finds each of them.
+    Indexed(IndexSet<Term>),
+    /// Alone, in the arena.
+    Listed(&'a [Term]),
 }
 
 impl<'a> Model for TermStore<'a> {
     ghost use Rattle.std.specs.Prelude.{List};
     ghost use Rattle.query_terms.specs.declared.terms.Term.{Term};
-    ghost use Rattle.query_terms.specs.Store.{IsIndexed};
+    ghost use Rattle.query_terms.specs.Store.{IsFull};
+    ghost use Rattle.query_terms.specs.Kept.{terms_in};
 
     ghost Value = { List Term };
 
-    ghost view = { λ store. store.terms.items };
+    ghost view = { λ store. terms_in store.terms };
 
-    ghost invariant = { λ store. IsIndexed store.terms.items store.index.entries };
+    ghost invariant = { λ store. IsFull (terms_in store.terms) };
 }
 
 impl<'a> TermStore<'a> {
-    /// The store with no term, whose list lies in the arena.
+    /// The store with no term. Once it is listed, the list lies in the arena.
     pub fn new(alloc: Global, arena: &'a Arena) -> TermStore<'a>
         ensures { result ≡ [] }
     {
         TermStore {
-            terms: Vec::new(arena),
-            index: IndexMap::new(alloc),
+            alloc,
+            arena,
+            terms: Terms::Indexed(IndexSet::new(alloc)),
         }
     }
 
@@ -49,15 +62,14 @@ impl<'a> TermStore<'a> {
         ensures few { length self.new ≤ length self.old + 1 }
         ensures refused { OnErr result (self.new ≡ self.old) }
     {
-        if let Some(number) = self.index.get(&term) {
-            return Ok(TermId::of(*number));
-        }
-        let number = self.terms.as_slice().len() as u32;
-        self.terms.reserve(1)?;
-        self.index.insert(term, number)?;
-        match self.terms.push(term) {
-            Ok(()) => Ok(TermId::of(number)),
-            Err(_) => unreachable!(),
+        match &mut self.terms {
+            Terms::Indexed(index) => put_in(index, term),
+            Terms::Listed(terms) => {
+                let mut index = indexed(self.alloc, *terms)?;
+                let id = put_in(&mut index, term)?;
+                self.terms = Terms::Indexed(index);
+                Ok(id)
+            }
         }
     }
 
@@ -66,7 +78,7 @@ impl<'a> TermStore<'a> {
         requires { id < length self.now }
         ensures { slice_get self.now id ≡ Some result }
     {
-        self.terms[id.number() as usize]
+        self.terms.as_slice()[id.number() as usize]
     }
 
     /// The number of terms.
@@ -84,4 +96,56 @@ impl<'a> TermStore<'a> {
     {
         TermId::of(n)
     }
+
+    /// The same terms, listed in the arena: they take no more memory than a list needs.
+    pub(crate) fn into_listed(self) -> Result<TermStore<'a>, AllocError>
+        ensures { IfOk result (λ store. store ≡ self.entry) }
+    {
+        let terms = self.arena.try_alloc_slice_copy(self.terms.as_slice())?;
+        Ok(TermStore {
+            alloc: self.alloc,
+            arena: self.arena,
+            terms: Terms::Listed(terms),
+        })
+    }
+}
+
+impl<'a> Terms<'a> {
+    /// All terms.
+    fn as_slice(&self) -> &[Term]
+        ensures { result.now ≡ terms_in self.now }
+    {
+        match self {
+            Terms::Indexed(index) => index.as_slice(),
+            Terms::Listed(terms) => terms,
+        }
+    }
+}
+
+/// The number of the term in the index, where it goes last if it isn't there.
+fn put_in(index: &mut IndexSet<Term>, term: Term) -> Result<TermId, AllocError>
+    requires full { IsFull index.old.keys }
+    requires children { ChildrenBelow (length index.old.keys) term }
+    requires room { length index.old.keys < terms_most }
+    ensures put { IfOk result (λ id. put_of index.old.keys term ≡ record { terms = index.new.keys; number = id }) }
+    ensures inside { IfOk result (λ id. slice_get index.new.keys id ≡ Some term) }
+    ensures full { IsFull index.new.keys }
+    ensures few { length index.new.keys ≤ length index.old.keys + 1 }
+    ensures grows { length index.old.keys ≤ length index.new.keys }
+    ensures refused { OnErr result (index.new.keys ≡ index.old.keys) }
+{
+    let (number, _) = index.insert_full(term)?;
+    Ok(TermId::of(number as u32))
+}
+
+/// The terms of a store, with an index.
+fn indexed(alloc: Global, terms: &[Term]) -> Result<IndexSet<Term>, AllocError>
+    requires { IsStore terms.now }
+    ensures { IfOk result (λ index. index.keys ≡ terms.now) }
+{
+    let mut index = IndexSet::with_capacity(alloc, terms.len())?;
+    for term in terms {
+        index.insert(*term)?;
+    }
+    Ok(index)
 }

@@ -97,9 +97,9 @@ impl<'a> Numbering<'a> {
     }
 
     /// The terms.
-    pub(crate) fn into_terms(self) -> TermStore<'a>
-        ensures { result ≡ self.entry.terms }
+    pub(crate) fn into_terms(self) -> Result<TermStore<'a>, AllocError>
+        ensures { IfOk result (λ terms. terms ≡ self.entry.terms) }
     {
-        self.terms
+        self.terms.into_listed()
     }
 }

@@ -20,7 +20,7 @@ invariant_of-result c =
     let a = c.into_lists-lists.ensures in
     let q = c.into_lists-lists.result in
     let rules = rules_in q.symbols.now q.words.now q.conjuncts.now q.rules.now in
-    let terms = c.into_terms-terms.ensures ∙ whole_terms labels l u rules is a.rules_are no_conjunct no_word no_symbol in
+    let terms = c.in_ok-terms.ensures ∙ whole_terms labels l u rules is a.rules_are no_conjunct no_word no_symbol in
     let numbers = a.numbers_are ∙ whole_numbers labels l u rules is a.rules_are no_conjunct in
     record {
       symbols_are = a.kept.symbols_are;
