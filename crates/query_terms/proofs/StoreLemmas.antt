@@ -56,16 +56,20 @@ number_of-there (t ∷ terms) term d within = elim (cases_Bool (is_term term t))
   | inr miss ↦ rw miss (number_of-there terms term d (omega (arith, (rw miss at within))))
 ]
 
-number_of-absent : (terms : List Term) (term : Term) → length terms ≤ number_of terms term → (k : ℕ) (d : Term) → k < length terms → get_or terms k d ≢ term
-number_of-absent [] term most k d within = absurd (omega (arith, within))
-number_of-absent (t ∷ terms) term most zero d within = elim (cases_Bool (is_term term t)) [
-  | inl hit ↦ absurd (omega (arith, (rw hit at most)))
+-- no earlier term is the term
+number_of-later : (terms : List Term) (term : Term) (k : ℕ) → k < number_of terms term → (d : Term) → get_or terms k d ≢ term
+number_of-later [] term k before d = absurd (omega (arith, before))
+number_of-later (t ∷ terms) term zero before d = elim (cases_Bool (is_term term t)) [
+  | inl hit ↦ absurd (omega (arith, (rw hit at before)))
   | inr miss ↦ λ same. true≢false (sym (is_term-self term) ∙ ap (is_term term) (sym same) ∙ miss)
 ]
-number_of-absent (t ∷ terms) term most (suc k) d within = elim (cases_Bool (is_term term t)) [
-  | inl hit ↦ absurd (omega (arith, (rw hit at most)))
-  | inr miss ↦ number_of-absent terms term (omega (arith, (rw miss at most))) k d (omega (arith, within))
+number_of-later (t ∷ terms) term (suc k) before d = elim (cases_Bool (is_term term t)) [
+  | inl hit ↦ absurd (omega (arith, (rw hit at before)))
+  | inr miss ↦ number_of-later terms term k (omega (arith, (rw miss at before))) d
 ]
+
+number_of-absent : (terms : List Term) (term : Term) → length terms ≤ number_of terms term → (k : ℕ) (d : Term) → k < length terms → get_or terms k d ≢ term
+number_of-absent terms term most k d within = number_of-later terms term k (omega (arith, most, within)) d
 
 children-push : (terms : List Term) (term : Term) → IsStore terms → ChildrenBelow (length terms) term
     → (n : ℕ) (x : Term) → slice_get (terms ++ term ∷ []) n ≡ Some x → ChildrenBelow n x
@@ -131,3 +135,20 @@ index_next terms k d is within =
     same_test (get_or terms k d) (get_or (take k terms) i e) ∙ is_term-differ (get_or (take k terms) i e) (get_or terms k d) (earlier-differs terms k d i e is within
     (omega (arith, inside, length-take-le k terms (omega (arith, within)))))) in
     ap (λ b. if b then take k terms else take k terms ++ get_or terms k d ∷ []) new ∙ sym (take_more terms k d within)
+
+-- the first place of a term that stands at a place is that place
+number_of-at : (terms : List Term) (term : Term) (n : ℕ) → IsStore terms → n < length terms → get_or terms n term ≡ term → number_of terms term ≡ n
+number_of-at terms term n is within at = elim (cases_lt (number_of terms term) n) [
+  | inl before ↦ absurd (is.differ (number_of terms term) n term before within (number_of-there terms term term (omega (arith, before, within)) ∙ sym at))
+  | inr after ↦ elim (cases_lt n (number_of terms term)) [
+    | inl before ↦ absurd (number_of-later terms term n before term at)
+    | inr same ↦ omega (arith, after, same)
+  ]
+]
+
+-- a term that stands at a place is put by its place
+pub put_found : (terms : List Term) (term : Term) (n : ℕ) → IsStore terms → slice_get terms n ≡ Some term → put_of terms term ≡ record { terms = terms; number = n }
+put_found terms term n is at =
+    let within = slice_get_within terms n term at in
+    let same = number_of-at terms term n is within (get_or_from_slice_get terms n term term at) in
+    put_is_there terms term (subst (λ k. k < length terms) (sym same) within) ∙ ap (λ k. record { terms = terms; number = k }) same

@@ -9,6 +9,7 @@ mod building;
 pub mod laws;
 mod layout;
 mod query;
+mod steps;
 mod store;
 mod terms;
 mod underway;

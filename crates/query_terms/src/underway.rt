@@ -5,6 +5,7 @@ ghost use Rattle.query_terms.specs.declared.terms.Term.TheVariants.{Step};
 ghost use Rattle.query_terms.specs.Store.{terms_most};
 ghost use Rattle.query_terms.specs.Underway.{with_step, with_choice, with_end, closed};
 
+use crate::steps::put_step;
 use crate::store::TermStore;
 use crate::terms::{Term, TermId};
 use gm_text::Arena;
@@ -17,6 +18,8 @@ pub(crate) struct Numbering<'a> {
     terms: TermStore<'a>,
     word: Option<TermId>,
     union: Option<TermId>,
+    /// Where steps were found last.
+    steps: Vec<u32>,
 }
 
 impl<'a> Model for Numbering<'a> {
@@ -38,6 +41,7 @@ impl<'a> Numbering<'a> {
             terms: TermStore::new(alloc, arena),
             word: None,
             union: None,
+            steps: Vec::new(alloc),
         }
     }
 
@@ -47,7 +51,7 @@ impl<'a> Numbering<'a> {
         ensures goes_on { OnOk result (self.new ≡ with_step self.old (Step label back)) }
         ensures few { length self.new.terms ≤ length self.old.terms + 2 }
     {
-        let step = self.terms.put(Term::Step { label, back })?;
+        let step = put_step(&mut self.terms, &mut self.steps, label, back)?;
         let word = match self.word {
             None => step,
             Some(before) => self.terms.put(Term::Seq(before, step))?,
