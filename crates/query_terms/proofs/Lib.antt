@@ -1,4 +1,5 @@
 pub mod StoreLemmas
+pub mod IndexLemmas
 pub mod SpanLemmas
 pub mod WordLemmas
 pub mod LayoutLemmas

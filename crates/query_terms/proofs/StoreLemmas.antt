@@ -1,46 +1,22 @@
 -- A store: a term that is there is found, and one that isn't goes last.
-use Rattle.std.proofs.Common.{◌≡◌, ◌≢◌, ℕ, zero, suc, ◌+◌, ◌<◌, ◌≤◌, true, false, nat_lt, List, [], ◌∷◌, ◌++◌, length, take, slice_get, get_or, Some, refl, sym, ap, subst, ◌∙◌, if◌then◌else◌, true≢false, arith, inl, inr}
+use Rattle.std.proofs.Common.{◌≡◌, ◌≢◌, ℕ, zero, suc, ◌+◌, ◌<◌, ◌≤◌, ◌⊎◌, true, List, [], ◌∷◌, ◌++◌, length, take, slice_get, get_or, Some, refl, sym, ap, subst, ◌∙◌, if◌then◌else◌, true≢false, arith, inl, inr}
 use Rattle.std.proofs.lemmas.Bool.{cases_Bool, cases_lt, lt-ltb, le-ltb}
-use Rattle.std.proofs.lemmas.List.{length-append, length-take-le, take_more, get_or_push, get_or_append_left, get_or-take, get_or_default}
-use Rattle.std.proofs.lemmas.List.Folds.{list_any_none}
-use Rattle.std.proofs.lemmas.List.Recursion.{is_position_or_len}
+use Rattle.std.proofs.lemmas.List.{length-append, length-take-le, get_or_push, get_or_append_left, get_or-take}
 use Rattle.std.proofs.lemmas.Option.{slice_get_within, slice_get-get_or, get_or_from_slice_get}
 use Rattle.std.proofs.lemmas.List.Quantifiers.{all_pairs_push}
-use Rattle.std.specs.List.{list_any, position_or_len}
-use Rattle.indexmap.specs.IndexSet.{insert_key}
 use Rattle.query_terms.specs.contracts.terms.TermPartialEq.TheImpl.{eq-value}
 use Rattle.query_terms.specs.declared.terms.Term.{Term}
 use Rattle.query_terms.specs.Store.{ChildrenBelow, IsStore, IsFull, is_term, number_of, put_of, terms_most}
 
 -- the test of the code is that of the definition
-same_test : (a b : Term) → eq-value.it a b ≡ is_term a b
+pub same_test : (a b : Term) → eq-value.it a b ≡ is_term a b
 same_test a b = grind arith
 
-term_is : (a b : Term) → is_term a b ≡ true → a ≡ b
+pub term_is : (a b : Term) → is_term a b ≡ true → a ≡ b
 term_is a b = grind arith
 
-is_term-self : (a : Term) → is_term a a ≡ true
+pub is_term-self : (a : Term) → is_term a a ≡ true
 is_term-self a = grind arith
-
-below-suc : (k l : ℕ) → nat_lt k l ≡ nat_lt (suc k) (suc l)
-below-suc k l = elim (cases_lt k l) [
-  | inl less ↦ rw (lt-ltb k l less, lt-ltb (suc k) (suc l) (omega (arith, less))) refl
-  | inr most ↦ rw (le-ltb k l most, le-ltb (suc k) (suc l) (omega (arith, most))) refl
-]
-
--- whether the index has a term, and where
-is_there : (terms : List Term) (term : Term) → list_any (eq-value.it term) terms ≡ nat_lt (number_of terms term) (length terms)
-is_there [] term = refl
-is_there (t ∷ terms) term = elim (cases_Bool (is_term term t)) [
-  | inl hit ↦ rw (same_test term t, hit, lt-ltb 0 (suc (length terms)) (omega arith)) refl
-  | inr miss ↦ rw (same_test term t, miss) (is_there terms term ∙ below-suc (number_of terms term) (length terms))
-]
-
-one-more : (n : ℕ) → suc n ≡ 1 + n
-one-more n = omega arith
-
-number_is : (terms : List Term) (term : Term) → position_or_len (eq-value.it term) terms ≡ number_of terms term
-number_is terms term = sym (is_position_or_len (λ xs. number_of xs term) (eq-value.it term) refl (λ t xs. rw (same_test term t) (ap (λ n. if is_term term t then 0 else n) (one-more (number_of xs term)))) terms)
 
 number_of-most : (terms : List Term) (term : Term) → number_of terms term ≤ length terms
 number_of-most [] term = omega arith
@@ -71,12 +47,12 @@ number_of-later (t ∷ terms) term (suc k) before d = elim (cases_Bool (is_term 
 number_of-absent : (terms : List Term) (term : Term) → length terms ≤ number_of terms term → (k : ℕ) (d : Term) → k < length terms → get_or terms k d ≢ term
 number_of-absent terms term most k d within = number_of-later terms term k (omega (arith, most, within)) d
 
-children-push : (terms : List Term) (term : Term) → IsStore terms → ChildrenBelow (length terms) term
-    → (n : ℕ) (x : Term) → slice_get (terms ++ term ∷ []) n ≡ Some x → ChildrenBelow n x
-children-push terms term is below n x at = elim (cases_lt n (length terms)) [
-  | inl less ↦ is.children n x (slice_get-get_or terms n x less ∙ ap Some (sym (get_or_append_left terms (term ∷ []) x n less) ∙ value))
+-- what stands in a list with a term more stands in the list, or is the term
+pub push_cases : (terms : List Term) (term : Term) (n : ℕ) (x : Term) → slice_get (terms ++ term ∷ []) n ≡ Some x → (slice_get terms n ≡ Some x) ⊎ ((length terms ≡ n) × (term ≡ x))
+push_cases terms term n x at = elim (cases_lt n (length terms)) [
+  | inl less ↦ inl (slice_get-get_or terms n x less ∙ ap Some (sym (get_or_append_left terms (term ∷ []) x n less) ∙ value))
   | inr most ↦ let last : length terms ≡ n = omega (arith, most, within) in
-      subst (ChildrenBelow n) (sym (get_or_push terms term x n last) ∙ value) (subst (λ k. ChildrenBelow k term) last below)
+      inr (last, sym (get_or_push terms term x n last) ∙ value)
 ]
   where
     value : get_or (terms ++ term ∷ []) n x ≡ x
@@ -84,6 +60,26 @@ children-push terms term is below n x at = elim (cases_lt n (length terms)) [
 
     within : n < length terms + 1
     within = rw (← length-append terms (term ∷ [])) (slice_get_within (terms ++ term ∷ []) n x at)
+
+-- what stands in a list stands there with a term more
+pub push_keeps : (terms : List Term) (term : Term) (n : ℕ) (x : Term) → slice_get terms n ≡ Some x → slice_get (terms ++ term ∷ []) n ≡ Some x
+push_keeps terms term n x at =
+    let less = slice_get_within terms n x at in
+    slice_get-get_or (terms ++ term ∷ []) n x (rw (length-append terms (term ∷ [])) (omega (arith, less)))
+    ∙ ap Some (get_or_append_left terms (term ∷ []) x n less ∙ get_or_from_slice_get terms n x x at)
+
+-- what was pushed stands last
+pub last_there : (terms : List Term) (term : Term) → slice_get (terms ++ term ∷ []) (length terms) ≡ Some term
+last_there terms term =
+    slice_get-get_or (terms ++ term ∷ []) (length terms) term (rw (length-append terms (term ∷ [])) (omega arith))
+    ∙ ap Some (get_or_push terms term term (length terms) refl)
+
+children-push : (terms : List Term) (term : Term) → IsStore terms → ChildrenBelow (length terms) term
+    → (n : ℕ) (x : Term) → slice_get (terms ++ term ∷ []) n ≡ Some x → ChildrenBelow n x
+children-push terms term is below n x at = elim (push_cases terms term n x at) [
+  | inl earlier ↦ is.children n x earlier
+  | inr last ↦ subst (ChildrenBelow n) last.1 (subst (λ k. ChildrenBelow k term) last.0 below)
+]
 
 -- a store with a new term at its end
 pub store_push : (terms : List Term) (term : Term) → IsStore terms → ChildrenBelow (length terms) term → length terms ≤ number_of terms term → IsStore (terms ++ term ∷ [])
@@ -99,42 +95,6 @@ pub put_is_new : (terms : List Term) (term : Term) → length terms ≤ number_o
 put_is_new terms term most =
     let same : number_of terms term ≡ length terms = omega (arith, most, number_of-most terms term) in
     λ i. record { terms = if le-ltb _ _ most i then terms else terms ++ term ∷ []; number = same i }
-
--- what the index does with a term is what putting it does
-pub put_is : (terms : List Term) (term : Term) → put_of terms term ≡ record { terms = insert_key eq-value.it terms term; number = position_or_len (eq-value.it term) terms }
-put_is terms term = λ i. record {
-  terms = if sym (is_there terms term) i then terms else terms ++ term ∷ [];
-  number = sym (number_is terms term) i;
-}
-
--- and the store stays one
-pub full_put : (terms : List Term) (term : Term) → IsFull terms → ChildrenBelow (length terms) term → length terms < terms_most → IsFull (insert_key eq-value.it terms term)
-full_put terms term is below room = elim (cases_lt (number_of terms term) (length terms)) [
-  | inl less ↦ subst IsFull (ap (λ b. if b then terms else terms ++ term ∷ []) (sym (is_there terms term ∙ lt-ltb _ _ less))) is
-  | inr most ↦ subst IsFull (ap (λ b. if b then terms else terms ++ term ∷ []) (sym (is_there terms term ∙ le-ltb _ _ most))) (record {
-    store = store_push terms term is.store below most;
-    few = rw (length-append terms (term ∷ [])) (omega (arith, room));
-  })
-]
-
-is_term-differ : (a b : Term) → a ≢ b → is_term b a ≡ false
-is_term-differ a b differ = elim (cases_Bool (is_term b a)) [
-  | inl same ↦ absurd (differ (sym (term_is b a same)))
-  | inr other ↦ other
-]
-
-earlier-differs : (terms : List Term) (k : ℕ) (d : Term) (i : ℕ) (e : Term) → IsStore terms → k < length terms → i < k → get_or (take k terms) i e ≢ get_or terms k d
-earlier-differs terms k d i e is within before =
-    λ same. is.differ i k e before within (sym (get_or-take k terms i e before) ∙ (same ∙ get_or_default terms k d e within))
-
--- the first terms of a store, and the next one
-pub index_next : (terms : List Term) (k : ℕ) (d : Term) → IsStore terms → k < length terms → insert_key eq-value.it (take k terms) (get_or terms k d) ≡ take (k + 1) terms
-index_next terms k d is within =
-    let new : list_any (eq-value.it (get_or terms k d)) (take k terms) ≡ false =
-    list_any_none (eq-value.it (get_or terms k d)) (take k terms) (λ i e inside.
-    same_test (get_or terms k d) (get_or (take k terms) i e) ∙ is_term-differ (get_or (take k terms) i e) (get_or terms k d) (earlier-differs terms k d i e is within
-    (omega (arith, inside, length-take-le k terms (omega (arith, within)))))) in
-    ap (λ b. if b then take k terms else take k terms ++ get_or terms k d ∷ []) new ∙ sym (take_more terms k d within)
 
 -- the first place of a term that stands at a place is that place
 number_of-at : (terms : List Term) (term : Term) (n : ℕ) → IsStore terms → n < length terms → get_or terms n term ≡ term → number_of terms term ≡ n
@@ -152,3 +112,25 @@ put_found terms term n is at =
     let within = slice_get_within terms n term at in
     let same = number_of-at terms term n is within (get_or_from_slice_get terms n term term at) in
     put_is_there terms term (subst (λ k. k < length terms) (sym same) within) ∙ ap (λ k. record { terms = terms; number = k }) same
+
+-- a store with a new term stays one that can number its terms
+pub full_push : (terms : List Term) (term : Term) → IsFull terms → ChildrenBelow (length terms) term → length terms < terms_most → length terms ≤ number_of terms term → IsFull (terms ++ term ∷ [])
+full_push terms term is below room most = record {
+  store = store_push terms term is.store below most;
+  few = rw (length-append terms (term ∷ [])) (omega (arith, room));
+}
+
+-- a term that stands nowhere is new
+pub is_new : (terms : List Term) (term : Term) → ((n : ℕ) → slice_get terms n ≢ Some term) → length terms ≤ number_of terms term
+is_new terms term nowhere = elim (cases_lt (number_of terms term) (length terms)) [
+  | inl less ↦ absurd (nowhere (number_of terms term) (slice_get-get_or terms _ term less ∙ ap Some (number_of-there terms term term less)))
+  | inr most ↦ most
+]
+
+-- the next term of a store is new to those before it
+pub front_new : (terms : List Term) (k : ℕ) (term : Term) → IsStore terms → slice_get terms k ≡ Some term → length (take k terms) ≤ number_of (take k terms) term
+front_new terms k term is at = is_new (take k terms) term (λ n earlier.
+    let within = slice_get_within terms k term at in
+    let before : n < k = omega (arith, slice_get_within (take k terms) n term earlier, length-take-le k terms (omega (arith, within))) in
+    is.differ n k term before within
+    (sym (get_or-take k terms n term before) ∙ (get_or_from_slice_get (take k terms) n term term earlier ∙ sym (get_or_from_slice_get terms k term term at))))

@@ -7,5 +7,5 @@ use Rattle.query_terms.specs.declared.store.Terms.TheVariants.{Indexed, Listed}
 
 -- those of the index, or of the list
 abbrev pub terms_in : Terms → List Term
-terms_in (Indexed index) = index.keys
+terms_in (Indexed index) = index
 terms_in (Listed terms) = terms.now

@@ -1,5 +1,6 @@
 pub mod Values
 pub mod Store
+pub mod Index
 pub mod Kept
 pub mod Numbering
 pub mod Trees

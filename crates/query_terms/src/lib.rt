@@ -6,6 +6,7 @@
 #![tactic(auto)]
 
 mod building;
+mod index;
 pub mod laws;
 mod layout;
 mod query;

@@ -1,12 +1,12 @@
 //! A list of terms, each of which is there once.
 
 ghost use Rattle.std.specs.Prelude.{◌≡◌, ◌≤◌, ◌<◌, ◌+◌, length, slice_get, [], Some, IfOk, OnErr};
-ghost use Rattle.query_terms.specs.Store.{terms_most, ChildrenBelow, IsStore, IsFull, put_of};
+ghost use Rattle.query_terms.specs.Store.{terms_most, ChildrenBelow, IsStore, put_of};
 ghost use Rattle.query_terms.specs.Kept.{terms_in};
 
+use crate::index::{TermIndex, indexed};
 use crate::terms::{Term, TermId};
 use gm_text::Arena;
-use indexmap::IndexSet;
 use std::alloc::{AllocError, Global};
 use std::marker::Model;
 
@@ -22,7 +22,7 @@ pub struct TermStore<'a> {
 #[derive(Drop)]
 pub(crate) enum Terms<'a> {
     /// With an index that finds each of them.
-    Indexed(IndexSet<Term>),
+    Indexed(TermIndex),
     /// Alone, in the arena.
     Listed(&'a [Term]),
 }
@@ -48,7 +48,7 @@ impl<'a> TermStore<'a> {
         TermStore {
             alloc,
             arena,
-            terms: Terms::Indexed(IndexSet::new(alloc)),
+            terms: Terms::Indexed(TermIndex::new(alloc)),
         }
     }
 
@@ -63,10 +63,10 @@ impl<'a> TermStore<'a> {
         ensures refused { OnErr result (self.new ≡ self.old) }
     {
         match &mut self.terms {
-            Terms::Indexed(index) => put_in(index, term),
+            Terms::Indexed(index) => index.put(term),
             Terms::Listed(terms) => {
                 let mut index = indexed(self.alloc, *terms)?;
-                let id = put_in(&mut index, term)?;
+                let id = index.put(term)?;
                 self.terms = Terms::Indexed(index);
                 Ok(id)
             }
@@ -120,32 +120,4 @@ impl<'a> Terms<'a> {
             Terms::Listed(terms) => terms,
         }
     }
-}
-
-/// The number of the term in the index, where it goes last if it isn't there.
-fn put_in(index: &mut IndexSet<Term>, term: Term) -> Result<TermId, AllocError>
-    requires full { IsFull index.old.keys }
-    requires children { ChildrenBelow (length index.old.keys) term }
-    requires room { length index.old.keys < terms_most }
-    ensures put { IfOk result (λ id. put_of index.old.keys term ≡ record { terms = index.new.keys; number = id }) }
-    ensures inside { IfOk result (λ id. slice_get index.new.keys id ≡ Some term) }
-    ensures full { IsFull index.new.keys }
-    ensures few { length index.new.keys ≤ length index.old.keys + 1 }
-    ensures grows { length index.old.keys ≤ length index.new.keys }
-    ensures refused { OnErr result (index.new.keys ≡ index.old.keys) }
-{
-    let (number, _) = index.insert_full(term)?;
-    Ok(TermId::of(number as u32))
-}
-
-/// The terms of a store, with an index.
-fn indexed(alloc: Global, terms: &[Term]) -> Result<IndexSet<Term>, AllocError>
-    requires { IsStore terms.now }
-    ensures { IfOk result (λ index. index.keys ≡ terms.now) }
-{
-    let mut index = IndexSet::with_capacity(alloc, terms.len())?;
-    for term in terms {
-        index.insert(*term)?;
-    }
-    Ok(index)
 }
