@@ -140,7 +140,7 @@ impl<'a> QueryBuilder<'a> {
         ensures { IfOk result (λ query. query_value query ≡ record { labels = self.entry.labels; shape = shape; class = class; wide = wide; rules = self.entry.rules }) }
     {
         let terms = self.numbering.into_terms()?;
-        let lists = self.layout.into_lists();
+        let lists = self.layout.into_lists()?;
         Ok(Query {
             shape,
             class,

@@ -109,20 +109,20 @@ impl<'a> Layout<'a> {
         Ok(())
     }
 
-    /// The lists, which stay in the arena.
-    pub(crate) fn into_lists(self) -> Lists<'a>
+    /// The lists, in the arena.
+    pub(crate) fn into_lists(self) -> Result<Lists<'a>, AllocError>
         requires conjuncts { self.conjuncts ≡ [] }
         requires words { self.words ≡ [] }
         requires word { self.word ≡ [] }
-        ensures { AreLists self.entry result.symbols.now result.words.now result.conjuncts.now result.rules.now }
+        ensures { IfOk result (λ lists. AreLists self.entry lists.symbols.now lists.words.now lists.conjuncts.now lists.rules.now) }
     {
-        let (symbols, words) = self.words.into_lists();
-        Lists {
+        let (symbols, words) = self.words.into_lists()?;
+        Ok(Lists {
             symbols,
             words,
             conjuncts: into_bump_slice(self.conjuncts),
             rules: into_bump_slice(self.rules),
-        }
+        })
     }
 }
 

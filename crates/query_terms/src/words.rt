@@ -5,7 +5,6 @@ ghost use Rattle.query_terms.specs.Building.{symbols_most};
 ghost use Rattle.query_terms.specs.Lists.{words_in};
 ghost use Rattle.query_terms.specs.Layout.{AreWords};
 
-use bumpalo::collections::into_bump_slice;
 use gm_text::{Arena, Span};
 use indexmap::IndexMap;
 use sel_algebra::Symbol;
@@ -17,9 +16,9 @@ use std::marker::Model;
 pub(crate) struct WordTable<'a> {
     arena: &'a Arena,
     /// The symbols of the different words, and then those of the word that is begun.
-    symbols: Vec<Symbol, &'a Arena>,
+    symbols: Vec<Symbol>,
     /// The place of each word among the symbols.
-    spans: Vec<Span, &'a Arena>,
+    spans: Vec<Span>,
     /// Each different word with its place.
     index: IndexMap<&'a [Symbol], Span>,
     /// How many symbols are those of ended words.
@@ -46,8 +45,8 @@ impl<'a> WordTable<'a> {
     {
         WordTable {
             arena,
-            symbols: Vec::new(arena),
-            spans: Vec::new(arena),
+            symbols: Vec::new(alloc),
+            spans: Vec::new(alloc),
             index: IndexMap::new(alloc),
             ended: 0,
             taken: 0,
@@ -100,13 +99,15 @@ impl<'a> WordTable<'a> {
         }
     }
 
-    /// The symbols of the different words, and the place of each word.
-    pub(crate) fn into_lists(self) -> (&'a [Symbol], &'a [Span])
+    /// The symbols of the different words, and the place of each word, in the arena.
+    pub(crate) fn into_lists(self) -> Result<(&'a [Symbol], &'a [Span]), AllocError>
         requires { self.begun ≡ [] }
-        ensures kept { AreWords result.0.now result.1.now }
-        ensures words { words_in result.0.now result.1.now ≡ self.entry.ended }
+        ensures kept { IfOk result (λ lists. AreWords lists.0.now lists.1.now) }
+        ensures words { IfOk result (λ lists. words_in lists.0.now lists.1.now ≡ self.entry.ended) }
     {
-        (into_bump_slice(self.symbols), into_bump_slice(self.spans))
+        let symbols = copy_in(self.arena, self.symbols.as_slice())?;
+        let spans = copy_in(self.arena, self.spans.as_slice())?;
+        Ok((symbols, spans))
     }
 }
 
@@ -119,7 +120,7 @@ fn items_from(items: &[Symbol], first: usize) -> &[Symbol]
 }
 
 /// The same items, in the arena.
-fn copy_in<'a>(arena: &'a Arena, items: &[Symbol]) -> Result<&'a [Symbol], AllocError>
+fn copy_in<'a, T: Copy>(arena: &'a Arena, items: &[T]) -> Result<&'a [T], AllocError>
     ensures { IfOk result (λ copy. copy.now ≡ items.now) }
 {
     Ok(arena.try_alloc_slice_copy(items)?)

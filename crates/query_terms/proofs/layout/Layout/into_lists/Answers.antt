@@ -6,4 +6,4 @@ returns c =
     let s = c.self.inside in
     rw (← c.self.view_is, c.into_bump_slice.ensures, c.into_bump_slice-2.ensures)
     (whole_lists s.words s.conjuncts.items s.rules.items s.first_word s.first_conjunct c.self.invariant _ _
-    c.into_lists.ensures.kept c.into_lists.ensures.words (rw (← c.self.view_is) at c.requires.conjuncts) (rw (← c.self.view_is) at c.requires.words))
+    c.in_ok-symbols.ensures.kept c.in_ok-symbols.ensures.words (rw (← c.self.view_is) at c.requires.conjuncts) (rw (← c.self.view_is) at c.requires.words))
