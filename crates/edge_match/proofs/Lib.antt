@@ -15,3 +15,4 @@ pub mod TotalLemmas
 pub mod TypeLemmas
 pub mod OrderLemmas
 pub mod EdgeLemmas
+pub mod BucketLemmas

@@ -1,4 +1,5 @@
 pub mod Stubs
+pub mod Buckets
 pub mod Matching
 pub mod Conforming
 pub mod FreeSide
