@@ -29,6 +29,15 @@ fn words_one_after_another(rt: HostRuntime) {
 }
 
 #[test]
+fn words_from_each_place_on(rt: HostRuntime) {
+    for k in 0..5 {
+        let mut draws = Draws::after(42, 54, k as u64);
+        let words = [draws.next(), draws.next()];
+        assert_eq!(rt; words, [REFERENCE_WORDS[k], REFERENCE_WORDS[k + 1]]);
+    }
+}
+
+#[test]
 fn streams_and_picks(rt: HostRuntime) {
     assert_eq!(rt; stream(1, 2, 3), 0x1_0000_0002_0000_0003);
     for (word, below, picked) in [

@@ -1,5 +1,5 @@
 -- The words of a new generator, after a step, and after a jump.
-use Rattle.std.proofs.Common.{◌≡◌, ℕ, zero, suc, ◌+◌, refl, ap, add-one}
+use Rattle.std.proofs.Common.{◌≡◌, ℕ, zero, suc, ◌+◌, refl, ap, ◌∙◌, add-one, arith}
 use Rattle.rand_pcg.specs.Lcg.{Lcg, advance, state_after}
 use Rattle.rand_pcg.specs.Pcg.{multiplier_128, pcg64}
 use Rattle.seeded_draw.specs.Draw.{start, nth_word, word}
@@ -19,8 +19,10 @@ pub nth_word-left : (g left : Lcg) (w k : ℕ) → (w, left) ≡ pcg64 g → nth
 unfolding nth_word
 nth_word-left g left w k step = rw add-one (ap (λ p. nth_word p.1 k) step)
 
--- a jump of k leads to the word at place k
-pub nth_word-advance : (k : ℕ) (g : Lcg) → nth_word (advance 128 multiplier_128 k g) 0 ≡ nth_word g k
+-- a jump of k leaves the words from place k on
+pub nth_word-advance : (k n : ℕ) (g : Lcg) → nth_word (advance 128 multiplier_128 k g) n ≡ nth_word g (k + n)
 unfolding nth_word state_after
-nth_word-advance zero g = refl
-nth_word-advance (suc k) g = nth_word-advance k (pcg64 g).1
+nth_word-advance zero n g = let same : n ≡ 0 + n = omega arith in ap (nth_word g) same
+nth_word-advance (suc k) n g =
+    let more : suc (k + n) ≡ suc k + n = omega arith in
+    nth_word-advance k n (pcg64 g).1 ∙ ap (nth_word g) more

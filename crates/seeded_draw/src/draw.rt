@@ -1,8 +1,8 @@
 //! Words of the generator PCG XSL RR 128/64 (O'Neill, "PCG: a family of simple fast space-efficient
 //! statistically good algorithms for random number generation").
 
-ghost use Rattle.std.specs.Prelude.{◌≡◌, ◌+◌, ◌-◌, ◌^◌, ◌<◌, ◌≤◌};
-ghost use Rattle.seeded_draw.specs.Draw.{word, stream_of, pick_of};
+ghost use Rattle.std.specs.Prelude.{◌≡◌, ℕ, ◌+◌, ◌-◌, ◌^◌, ◌<◌, ◌≤◌};
+ghost use Rattle.seeded_draw.specs.Draw.{nth_word, word, stream_of, pick_of};
 
 use rand_core::utils::NextWord;
 use rand_pcg::Lcg128Xsl64;
@@ -15,13 +15,20 @@ pub fn stream(tag: u8, a: u32, b: u32) -> u128
     (u128::from(tag) << 64) + (u128::from(a) << 32) + u128::from(b)
 }
 
+/// The generator of a seed and a stream before its `k`-th word, counted from 0, in logarithmic time.
+fn generator_at(seed: u64, stream: u128, k: u64) -> Lcg128Xsl64
+    ensures { (n : ℕ) → nth_word result n ≡ word seed stream (k + n) }
+{
+    let mut generator = Lcg128Xsl64::new(u128::from(seed), stream);
+    generator.advance(u128::from(k));
+    generator
+}
+
 /// The `k`-th word of a seed and a stream, counted from 0, in logarithmic time.
 pub fn word_at(seed: u64, stream: u128, k: u64) -> u64
     ensures { result ≡ word seed stream k }
 {
-    let mut generator = Lcg128Xsl64::new(u128::from(seed), stream);
-    generator.advance(u128::from(k));
-    generator.next_word()
+    generator_at(seed, stream, k).next_word()
 }
 
 /// The number below `m` that a word picks: `floor(w * m / 2^64)`.
@@ -59,11 +66,18 @@ impl Draws {
     pub fn new(seed: u64, stream: u128) -> Draws
         ensures { result ≡ record { seed = seed; stream = stream; taken = 0 } }
     {
+        Draws::after(seed, stream, 0)
+    }
+
+    /// The words of a seed and a stream from place `k` on, counted from 0, in logarithmic time.
+    pub fn after(seed: u64, stream: u128, k: u64) -> Draws
+        ensures { result ≡ record { seed = seed; stream = stream; taken = k } }
+    {
         Draws {
             seed,
             stream,
-            taken: 0,
-            generator: Lcg128Xsl64::new(u128::from(seed), stream),
+            taken: k,
+            generator: generator_at(seed, stream, k),
         }
     }
 
