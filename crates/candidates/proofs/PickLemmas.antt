@@ -1,11 +1,11 @@
 -- What a word picks: from any list, from what passes a test, from a mapped list, and from a list or others.
-use Rattle.std.proofs.Common.{◌≡◌, ◌≢◌, ◌↔◌, ◌<◌, ◌+◌, ◌^◌, ◌∙◌, ℕ, zero, suc, Bool, true, false, Some, None, List, [], ◌∷◌, length, map, slice_index_or, inl, inr, refl, sym, ap, arith, rules}
+use Rattle.std.proofs.Common.{◌≡◌, ◌≢◌, ◌↔◌, ◌<◌, ◌+◌, ◌^◌, ◌∙◌, ℕ, zero, suc, Bool, true, false, Some, None, List, [], ◌∷◌, ◌++◌, if◌then◌else◌, length, map, slice_index_or, inl, inr, refl, sym, ap, arith, rules}
 use Rattle.std.specs.List.{All, slice_get, filter, list_any, range_with_len}
 use Rattle.std.specs.Option.{IfSome, IsNone, option_map}
 use Rattle.std.proofs.lemmas.Bool.{cases_Bool, true≢false}
-use Rattle.std.proofs.lemmas.List.{length-map, ext_get_or}
+use Rattle.std.proofs.lemmas.List.{length-map, map-id, ext_get_or}
 use Rattle.std.proofs.lemmas.List.Elements.{All-filter, All-from_get_or, All-get_or, filter_passes}
-use Rattle.std.proofs.lemmas.List.FromFn.{length-range_with_len, get_or-range_with_len, length-map-range_with_len, get_or-map-range_with_len}
+use Rattle.std.proofs.lemmas.List.FromFn.{length-range_with_len, get_or-range_with_len, length-map-range_with_len, get_or-map-range_with_len, filter_of_map_range_with_len_more}
 use Rattle.std.proofs.lemmas.Option.{slice_get-map, slice_get-get_or, slice_get_within, slice_get_cases, get_or_from_slice_get, none-some}
 use Rattle.seeded_draw.specs.Draw.{pick_of}
 use Rattle.candidates.specs.Picked.{picked, numbers_that, or_others}
@@ -82,6 +82,13 @@ numbers_that-at p n place = elim (slice_get_cases (numbers_that p n) place).1 [
       (at_slice_get (λ i. i < n) _ place x (All-filter p (λ i. i < n) _ (range_with_len-below n)) is, at_slice_get (λ i. p i ≡ true) _ place x (filter_passes p _) is)
   | inr (past, none) ↦ rw none (search rules)
 ]
+
+-- of one number more, those that pass are the others and maybe it
+pub numbers_that-more : (p : ℕ → Bool) (n : ℕ) (b : Bool) → b ≡ p n → numbers_that p (n + 1) ≡ numbers_that p n ++ (if b then n ∷ [] else [])
+numbers_that-more p n b is =
+    ap (filter p) (sym (map-id (range_with_len 0 (n + 1))))
+    ∙ (filter_of_map_range_with_len_more p (λ x. x) 0 n n (omega arith)
+    ∙ (λ k. filter p (map-id (range_with_len 0 n) k) ++ (if sym is k then n ∷ [] else [])))
 
 -- a pick from a mapped list is the pick, mapped
 pub picked-map : {X Y : Type 0} (w : ℕ) (f : X → Y) (xs : List X) → picked w (map f xs) ≡ option_map f (picked w xs)

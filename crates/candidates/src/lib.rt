@@ -5,4 +5,4 @@ mod picking;
 #[cfg(test)]
 mod tests;
 
-pub use picking::{Candidates, pick_among};
+pub use picking::{CANDIDATES_MOST, Candidates, pick_among};

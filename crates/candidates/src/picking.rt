@@ -1,9 +1,13 @@
 //! The live candidate that a word picks.
 
-ghost use Rattle.std.specs.Prelude.{◌≡◌, ◌<◌, ◌↔◌, ℕ, Bool, true, [], length, slice_get, IfSome, IsNone};
-ghost use Rattle.candidates.specs.Picked.{picked, numbers_that};
+ghost use Rattle.std.specs.Prelude.{◌≡◌, ◌<◌, ◌≤◌, ◌↔◌, ℕ, Bool, true, [], IfSome, IsNone};
+ghost use Rattle.candidates.specs.Picked.{picked, numbers_that, candidates_most};
 
+use arrayvec::ArrayVec;
 use seeded_draw::pick;
+
+/// The most candidates.
+pub const CANDIDATES_MOST: usize = 256;
 
 /// Numbered candidates, some of which are live.
 pub trait Candidates {
@@ -12,9 +16,10 @@ pub trait Candidates {
     /// How many candidates there are.
     ghost range: { Self → ℕ };
 
-    /// How many candidates there are, live or not: their numbers are those below it.
+    /// How many candidates there are, live or not, at most [`CANDIDATES_MOST`]: their numbers are those below it.
     fn numbers(&self) -> u32
-        ensures { result ≡ range self.now };
+        ensures range { result ≡ range self.now }
+        ensures few { result ≤ candidates_most };
 
     /// Whether candidate `i` is live.
     fn is_live(&self, i: u32) -> bool
@@ -22,35 +27,31 @@ pub trait Candidates {
         ensures { result ≡ live self.now i };
 }
 
-/// How many candidates are live.
-fn count_live<C: Candidates>(candidates: &C) -> usize
-    ensures { result ≡ length (numbers_that (C.live candidates.now) (C.range candidates.now)) }
+/// The numbers of the candidates that are live, in ascending order.
+fn live_numbers<C: Candidates>(candidates: &C) -> ArrayVec<u8, CANDIDATES_MOST>
+    ensures { result.items ≡ numbers_that (C.live candidates.now) (C.range candidates.now) }
 {
-    (0..candidates.numbers())
-        .filter(|i| candidates.is_live(*i))
-        .count()
-}
-
-/// The live candidate at a place among the live ones, counted from 0.
-fn nth_live<C: Candidates>(candidates: &C, place: usize) -> Option<u32>
-    ensures value { result ≡ slice_get (numbers_that (C.live candidates.now) (C.range candidates.now)) place }
-    ensures passes { IfSome result (λ i. (i < C.range candidates.now) × (C.live candidates.now i ≡ true)) }
-{
-    (0..candidates.numbers())
-        .filter(|i| candidates.is_live(*i))
-        .nth(place)
+    let mut numbers = ArrayVec::new();
+    for i in 0..candidates.numbers() {
+        if candidates.is_live(i) {
+            numbers.push(i as u8);
+        }
+    }
+    numbers
 }
 
 /// The live candidate that a word picks: the one at place `pick(w, n)` among the `n` that are live.
-/// Takes no memory: the candidates are counted, and then gone over again.
+/// Takes no memory.
 pub fn pick_among<C: Candidates>(candidates: &C, w: u64) -> Option<u32>
     ensures value { result ≡ picked w (numbers_that (C.live candidates.now) (C.range candidates.now)) }
     ensures passes { IfSome result (λ i. (i < C.range candidates.now) × (C.live candidates.now i ≡ true)) }
     ensures none { IsNone result ↔ (numbers_that (C.live candidates.now) (C.range candidates.now) ≡ []) }
 {
-    let count = count_live(candidates) as u64;
-    if count == 0 {
+    let numbers = live_numbers(candidates);
+    let numbers = numbers.as_slice();
+    if numbers.is_empty() {
         return None;
     }
-    nth_live(candidates, pick(w, count) as usize)
+    let place = pick(w, numbers.len() as u64) as usize;
+    Some(numbers[place] as u32)
 }

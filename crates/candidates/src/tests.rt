@@ -1,4 +1,5 @@
 ghost use Rattle.std.specs.Prelude.{◌≤◌, ◌%◌, ◌==◌};
+ghost use Rattle.candidates.specs.Picked.{candidates_most};
 
 use super::*;
 
@@ -9,6 +10,7 @@ struct Spaced {
     rest: u32,
     count: u32,
     ghost positive: { 1 ≤ step },
+    ghost few: { count ≤ candidates_most },
 }
 
 impl Candidates for Spaced {
