@@ -1,5 +1,6 @@
 -- What a drawer draws, and what is put into a query that is being built.
 --   random_words d            the random words of the rule
+--   draws_at d place          the draws of the rule, from a place on
 --   symbols_by, word_by, words_by, conjunct_by, conjuncts_by   symbols, a word, words, a conjunct and conjuncts of the rule
 --   spine_by, second_by, arms_by, legs_by   the legs of a spine, a second path and arms, and all legs of the rule
 --   rule_by                   the rule
@@ -8,6 +9,7 @@
 --   with_symbols b symbols    a query whose word has these symbols more
 use Rattle.std.specs.Prelude.{◌≡◌, ℕ, ◌+◌, ◌<◌, ◌==◌, ◌||◌, true, List, ◌++◌, length}
 use Rattle.seeded_draw.specs.Draw.{word}
+use Rattle.seeded_draw.specs.Place.{Place}
 use Rattle.sel_algebra.specs.declared.vocabulary.Class.{Class}
 use Rattle.sel_algebra.specs.declared.vocabulary.Symbol.{Symbol}
 use Rattle.skeletons.specs.Skeleton.{SkeletonValue, spine_of, arms_of}
@@ -25,6 +27,10 @@ use Rattle.query_draw.specs.Query.{heads_of}
 -- the random words of the rule
 abbrev pub random_words : Drawer → Words
 random_words d = word d.seed d.stream
+
+-- the draws of the rule, from a place on
+abbrev pub draws_at : Drawer → ℕ → Place
+draws_at d place = record { seed = d.seed; stream = d.stream; taken = place }
 
 -- ---- words and conjuncts
 

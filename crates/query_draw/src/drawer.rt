@@ -4,12 +4,12 @@ ghost use Rattle.std.specs.Prelude.{◌≡◌, ◌<◌};
 ghost use Rattle.seeded_draw.specs.Draw.{word};
 ghost use Rattle.gm_config.specs.WorkloadRules.{IsWorkload};
 ghost use Rattle.sel_graph.specs.Moves.{IsReach};
-ghost use Rattle.query_draw.specs.Drawn.{conjunct_place, word_place, symbol_place, wants_star, word_count};
+ghost use Rattle.query_draw.specs.Drawn.{conjunct_place, word_place, wants_star, word_count};
 
 use crate::drawing::draw_from;
 use gm_config::Workload;
 use schema_graph::Schema;
-use seeded_draw::{pick, word_at};
+use seeded_draw::{Draws, pick, word_at};
 use sel_graph::Reach;
 
 /// What a rule is drawn from.
@@ -37,6 +37,13 @@ impl<'a> Drawer<'a> {
         ensures { result ≡ word self.now.seed self.now.stream place }
     {
         word_at(self.seed, self.stream, place)
+    }
+
+    /// The random words from a place on.
+    pub fn words_from(&self, place: u64) -> Draws
+        ensures { result ≡ record { seed = self.now.seed; stream = self.now.stream; taken = place } }
+    {
+        Draws::after(self.seed, self.stream, place)
     }
 
     /// Whether a starred move is wanted for conjunct `i`.
@@ -67,17 +74,10 @@ pub(crate) fn conjunct_place(i: u8) -> u64
     16 + 1024 * u64::from(i)
 }
 
-/// The place of word `j` of conjunct `i`.
+/// The place of word `j` of conjunct `i`. Behind it are those of its symbols.
 pub(crate) fn word_place(i: u8, j: u8) -> u64
-    ensures { result ≡ word_place i j }
-{
-    conjunct_place(i) + 16 + 64 * u64::from(j)
-}
-
-/// The place of the first symbol of word `j` of conjunct `i`.
-pub(crate) fn symbol_place(i: u8, j: u8) -> u64
-    ensures place { result ≡ symbol_place i j }
+    ensures place { result ≡ word_place i j }
     ensures small { result < 2097152 }
 {
-    conjunct_place(i) + 17 + 64 * u64::from(j)
+    conjunct_place(i) + 16 + 64 * u64::from(j)
 }

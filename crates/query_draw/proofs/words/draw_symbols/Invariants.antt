@@ -1,7 +1,7 @@
 use Rattle.std.proofs.Common.{◌≡◌, ◌+◌, ◌-◌, ◌<◌, ◌≤◌, false, length}
 use Rattle.seeded_draw.specs.Draw.{word}
 use Rattle.query_terms.specs.Building.{symbols_most}
-use Rattle.query_draw.specs.Drawers.{symbols_by, with_symbols}
+use Rattle.query_draw.specs.Drawers.{draws_at, symbols_by, with_symbols}
 use Rattle.query_draw.proofs.PutLemmas.{SymbolsLeft}
 use Rattle.query_draw.proofs.words.draw_symbols.Given as goal
 
@@ -12,5 +12,7 @@ invariant-loop-j l = record {
   usable : l.builder.refused ≡ false;
   labels : length l.builder.labels ≡ length l.drawer.schema.now.edges;
   few : l.builder.taken + (l.len - l.j) ≤ symbols_most;
-  left : SymbolsLeft l.drawer.schema.now (word l.drawer.seed l.drawer.stream) l.to (with_symbols l.fn.builder (symbols_by l.drawer l.to l.fn.from l.len l.place)) l.builder l.state (l.len - l.j) (l.place + l.j);
+  draws : l.draws ≡ draws_at l.drawer l.draws.taken;
+  place : l.draws.taken ≡ l.fn.draws.taken + l.j;
+  left : SymbolsLeft l.drawer.schema.now (word l.drawer.seed l.drawer.stream) l.to (with_symbols l.fn.builder (symbols_by l.drawer l.to l.fn.from l.len l.fn.draws.taken)) l.builder l.state (l.len - l.j) l.draws.taken;
 }
