@@ -1,9 +1,8 @@
 //! The live candidate that a word picks.
 
-ghost use Rattle.std.specs.Prelude.{◌≡◌, ◌<◌, ◌≤◌, ◌↔◌, ℕ, Bool, true, [], IfSome, IsNone};
+ghost use Rattle.std.specs.Prelude.{◌≡◌, ◌<◌, ◌≤◌, ◌↔◌, ℕ, Bool, true, [], length, take, IfSome, IsNone};
 ghost use Rattle.candidates.specs.Picked.{picked, numbers_that, candidates_most};
 
-use arrayvec::ArrayVec;
 use seeded_draw::pick;
 
 /// The most candidates.
@@ -27,17 +26,21 @@ pub trait Candidates {
         ensures { result ≡ live self.now i };
 }
 
-/// The numbers of the candidates that are live, in ascending order.
-fn live_numbers<C: Candidates>(candidates: &C) -> ArrayVec<u8, CANDIDATES_MOST>
-    ensures { result.items ≡ numbers_that (C.live candidates.now) (C.range candidates.now) }
+/// Puts the numbers of the candidates that are live to the front of a list, in ascending order, and says how many there
+/// are. What stands behind them is not said.
+fn keep_live<C: Candidates>(candidates: &C, numbers: &mut [u8]) -> usize
+    requires { length numbers.old ≡ candidates_most }
+    ensures live { take result numbers.new ≡ numbers_that (C.live candidates.now) (C.range candidates.now) }
+    ensures within { result ≤ length numbers.new }
 {
-    let mut numbers = ArrayVec::new();
+    let mut count = 0;
     for i in 0..candidates.numbers() {
+        numbers[count] = i as u8;
         if candidates.is_live(i) {
-            numbers.push(i as u8);
+            count += 1;
         }
     }
-    numbers
+    count
 }
 
 /// The live candidate that a word picks: the one at place `pick(w, n)` among the `n` that are live.
@@ -47,11 +50,12 @@ pub fn pick_among<C: Candidates>(candidates: &C, w: u64) -> Option<u32>
     ensures passes { IfSome result (λ i. (i < C.range candidates.now) × (C.live candidates.now i ≡ true)) }
     ensures none { IsNone result ↔ (numbers_that (C.live candidates.now) (C.range candidates.now) ≡ []) }
 {
-    let numbers = live_numbers(candidates);
-    let numbers = numbers.as_slice();
-    if numbers.is_empty() {
+    let mut numbers = [0; CANDIDATES_MOST];
+    let count = keep_live(candidates, &mut numbers);
+    let live = &numbers[..count];
+    if live.is_empty() {
         return None;
     }
-    let place = pick(w, numbers.len() as u64) as usize;
-    Some(numbers[place] as u32)
+    let place = pick(w, live.len() as u64) as usize;
+    Some(live[place] as u32)
 }
