@@ -49,7 +49,7 @@ pub fn read_decimal(word: &[u8]) -> Decimal
 }
 
 /// Whether the word is `0`, or digits that don't begin with `0`.
-fn is_canonical(word: &[u8]) -> bool
+pub fn is_canonical(word: &[u8]) -> bool
     ensures { result ≡ is_canonical word.now }
 {
     has_no_spare_zero(word) && has_only_digits(word)

@@ -8,7 +8,7 @@ ghost use Rattle.workload_text.specs.View.{parts_left};
 ghost use Rattle.workload_text.specs.Forms.{one_word, two_words, four_words, is_variable, is_against, number_word, is_symbol_word, is_path_word, is_union_word, is_starred_word, within_star};
 
 use crate::sorts::begins_with_x;
-use gm_text::{Decimal, Words, read_decimal};
+use gm_text::{Words, is_canonical};
 use std::marker::Model;
 
 /// The parts of bytes between a separator, each taken once.
@@ -130,13 +130,6 @@ pub(crate) fn four_words<'t>(
         return None;
     };
     Some((front, back))
-}
-
-/// Whether the word is a decimal with no leading zero, of any size.
-pub(crate) fn is_canonical(word: &[u8]) -> bool
-    ensures { result ≡ is_canonical word.now }
-{
-    !matches!(read_decimal(word), Decimal::No)
 }
 
 /// Whether the word is `x` and a canonical decimal.

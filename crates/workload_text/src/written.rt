@@ -10,11 +10,11 @@ ghost use Rattle.workload_text.specs.View.{asked_view, line_view, IsOfSort};
 
 use crate::fixed::{class_of_word, format_of_word, kind_of_word, op_of_word, shape_of_word};
 use crate::parts::{
-    are_variables, four_words, is_canonical, is_starred_word, is_union_word, is_variable, one_word,
-    two_words, within_star,
+    are_variables, four_words, is_starred_word, is_union_word, is_variable, one_word, two_words,
+    within_star,
 };
 use crate::sorts::{Sort, first_word};
-use gm_text::{Words, is_name};
+use gm_text::{Words, is_canonical, is_name};
 use sel_algebra::{Class, Kind, Op, Shape};
 
 /// What a query asks for.
