@@ -1,5 +1,6 @@
 pub mod EntryLemmas
 pub mod TableLemmas
+pub mod UnitLemmas
 pub mod RowLemmas
 pub mod RankLemmas
 pub mod ClosureLemmas

@@ -1,6 +1,6 @@
-ghost use Rattle.std.specs.Prelude.{◌≡◌, ◌*◌, ◌<◌, ◌≤◌, ◌↔◌, length, replicate, IfOk, IsTrue, IsNone};
+ghost use Rattle.std.specs.Prelude.{◌≡◌, ◌*◌, ◌<◌, ◌≤◌, ◌↔◌, length, replicate, None, IfOk, IsTrue, IsNone};
 ghost use Rattle.sel_algebra.specs.Entries.{joined, composed, entry_class, greater_class};
-ghost use Rattle.sel_algebra.specs.Table.{types_most, laid_out, IsMatrix, entry, path_of, product_row, product_cells, sum_cells, JoinsEach, zero_of, one_at, one_of, times_of, plus_of, SetsEntry, HasNoEntries};
+ghost use Rattle.sel_algebra.specs.Table.{types_most, laid_out, IsMatrix, entry, path_of, product_row, product_cells, sum_cells, JoinsEach, zero_of, one_of, times_of, plus_of, SetsEntry, HasNoEntries};
 ghost use Rattle.sel_algebra.specs.Closure.{IsClosureOf, closure_of};
 ghost use Rattle.sel_algebra.specs.Greatest.{IsGreatestClass, greatest_from, greatest_class_of};
 
@@ -181,19 +181,21 @@ fn cells_of_one(alloc: Global, kinds: &[Kind]) -> Result<Vec<Option<Op>>, AllocE
     requires { length kinds.now ≤ types_most }
     ensures { IfOk result (λ cells. cells.items ≡ (one_of kinds.now).cells) }
 {
-    let size = kinds.len();
-    let mut cells = Vec::with_capacity(alloc, size * size)?;
-    for place in 0..size * size {
-        cells.push(one_entry(place / size, place % size))?;
-    }
+    let mut cells = no_entries(alloc, kinds.len() * kinds.len())?;
+    enter_equal(kinds, cells.as_mut_slice());
     Ok(cells)
 }
 
-/// One entry of that matrix.
-fn one_entry(from: usize, to: usize) -> Option<Op>
-    ensures { result ≡ one_at from to }
+/// Makes `Equal` the entry from each type to itself, where there was none.
+fn enter_equal(kinds: &[Kind], cells: &mut [Option<Op>])
+    requires few { length kinds.now ≤ types_most }
+    requires none { cells.old ≡ replicate (length kinds.now * length kinds.now) None }
+    ensures { cells.new ≡ (one_of kinds.now).cells }
 {
-    if from == to { Some(Op::Equal) } else { None }
+    let size = kinds.len();
+    for t in 0..size {
+        cells[t * size + t] = Some(Op::Equal);
+    }
 }
 
 /// The entries of a product, from those of the first matrix and the second.
