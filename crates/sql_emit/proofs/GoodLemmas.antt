@@ -4,7 +4,8 @@ use Rattle.std.specs.List.{list_all}
 use Rattle.std.proofs.lemmas.Bool.{and_parts}
 use Rattle.query_terms.specs.declared.terms.Term.{Term}
 use Rattle.query_terms.specs.declared.terms.Term.TheVariants.{Step, Seq, Alt, Star, Opt}
-use Rattle.query_terms.specs.Store.{ChildrenBelow, with_numbers}
+use Rattle.query_terms.specs.Store.{ChildrenBelow}
+use Rattle.sql_emit.specs.Numbered.{with_numbers}
 use Rattle.sql_read.specs.Tokens.{keyword_of}
 use Rattle.sql_read.specs.Grammar.{some, is_full_query, is_full_table, is_full}
 use Rattle.sql_emit.specs.declared.links.Link.{Link}

@@ -11,7 +11,8 @@ use Rattle.std.proofs.lemmas.List.Folds.{list_all-append}
 use Rattle.std.proofs.lemmas.Slice.Eq.{bytes_eq-Decides}
 use Rattle.query_terms.specs.declared.terms.Term.{Term}
 use Rattle.query_terms.specs.declared.terms.Term.TheVariants.{Step, Seq, Alt, Star, Opt}
-use Rattle.query_terms.specs.Store.{ChildrenBelow, with_numbers}
+use Rattle.query_terms.specs.Store.{ChildrenBelow}
+use Rattle.sql_emit.specs.Numbered.{with_numbers}
 use Rattle.sql_read.specs.Grammar.{Col, Right, Column, Equation}
 use Rattle.sql_read.specs.Conditions.{Header, edge_header, header_of, is_among, all_differ, columns_of, columns_under, belongs, right_belongs, is_there, alias_of, query_holds, has_width}
 use Rattle.sql_read.specs.Conditions.{table_holds, tables_hold, headers_after, width_of, holds}

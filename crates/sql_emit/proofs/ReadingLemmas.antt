@@ -4,7 +4,7 @@ use Rattle.std.proofs.lemmas.List.{length-map}
 use Rattle.token_text.specs.Spelled.{lexemes}
 use Rattle.token_text.proofs.SpelledLemmas.{HasTokens-spelled}
 use Rattle.query_terms.specs.declared.terms.Term.{Term}
-use Rattle.query_terms.specs.Store.{with_numbers}
+use Rattle.sql_emit.specs.Numbered.{with_numbers}
 use Rattle.sql_read.specs.Tokens.{is_blank, first, HasSqlTokens}
 use Rattle.sql_emit.specs.Reading.{term_table, printed_of}
 use Rattle.sql_emit.specs.Laws.{TextHasReading}

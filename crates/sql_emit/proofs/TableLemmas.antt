@@ -10,7 +10,8 @@ use Rattle.path_pairs.specs.Rounds as rounds
 use Rattle.path_pairs.proofs.StarLemmas.{stars_agree}
 use Rattle.query_terms.specs.declared.terms.Term.{Term}
 use Rattle.query_terms.specs.declared.terms.Term.TheVariants.{Step, Seq, Alt, Star, Opt}
-use Rattle.query_terms.specs.Store.{ChildrenBelow, IsStore, with_numbers}
+use Rattle.query_terms.specs.Store.{ChildrenBelow, IsStore}
+use Rattle.sql_emit.specs.Numbered.{with_numbers}
 use Rattle.query_terms.specs.Trees.{tree_in, tree_of, with_tree, trees_of}
 use Rattle.sql_read.specs.Grammar.{Query, Table}
 use Rattle.sql_read.specs.Conditions.{Header, edge_header, header_of, headers_after}

@@ -6,7 +6,7 @@ use Rattle.std.proofs.lemmas.Fmt.{decimal_digit}
 use Rattle.token_text.specs.Spelled.{Gap, Lexeme}
 use Rattle.query_terms.specs.declared.terms.Term.{Term}
 use Rattle.query_terms.specs.declared.terms.Term.TheVariants.{Step, Seq, Alt, Star, Opt}
-use Rattle.query_terms.specs.Store.{with_numbers}
+use Rattle.sql_emit.specs.Numbered.{with_numbers}
 use Rattle.sql_read.specs.declared.tokens.Mark.TheVariants.{And, Close, Equals}
 use Rattle.sql_read.specs.Tokens.{Fixed}
 use Rattle.sql_read.specs.Grammar.{Column, Value}

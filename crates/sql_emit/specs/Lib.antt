@@ -1,3 +1,4 @@
+pub mod Numbered
 pub mod Rules
 pub mod Reading
 pub mod Text

@@ -8,7 +8,7 @@ use Rattle.std.specs.Prelude.{ℕ, Bool, true, false, List, [], ◌∷◌, ◌++
 use Rattle.std.specs.List.{join_by}
 use Rattle.query_terms.specs.declared.terms.Term.{Term}
 use Rattle.query_terms.specs.declared.terms.Term.TheVariants.{Step, Seq, Alt, Star, Opt}
-use Rattle.query_terms.specs.Store.{with_numbers}
+use Rattle.sql_emit.specs.Numbered.{with_numbers}
 use Rattle.query_terms.specs.Values.{QueryValue}
 use Rattle.query_terms.specs.Numbering.{numbering}
 use Rattle.sql_read.specs.Grammar.{Col, Right, Column, Value, Equation, Source, Query}

@@ -14,7 +14,7 @@ use Rattle.query_terms.specs.declared.terms.Conjunct.{Conjunct}
 use Rattle.query_terms.specs.declared.terms.Rule.{Rule}
 use Rattle.query_terms.specs.Spans.{cut, lies}
 use Rattle.query_terms.specs.Lists.{heads_in, is_heads}
-use Rattle.query_terms.specs.Store.{with_numbers}
+use Rattle.sql_emit.specs.Numbered.{with_numbers}
 use Rattle.sql_read.specs.Grammar.{Col}
 use Rattle.sql_emit.specs.declared.links.Link.{Link}
 use Rattle.sql_emit.specs.declared.links.LinkRule.{LinkRule}
