@@ -7,8 +7,7 @@ pub mod PathLemmas
 pub mod HeadLemmas
 pub mod ConjunctLemmas
 pub mod QueryLemmas
-pub mod SparseLemmas
+pub mod ColumnLemmas
 pub mod AlongLemmas
-pub mod SumLemmas
 pub mod MatrixLemmas
 pub mod LedLemmas

@@ -195,7 +195,8 @@ pub word_is_matrix : (g : SchemaValue) (a : Table) (word : List Symbol) → IsMa
 word_is_matrix g a [] is = is
 word_is_matrix g a (c ∷ word) is = word_is_matrix g (times_symbol g a c) word (IsMatrix-times_of a (symbol_matrix g c) is)
 
-union_is_matrix : (g : SchemaValue) → length g.kinds ≤ types_most → (a : Table) → a.kinds ≡ g.kinds → (words : List (List Symbol)) → IsMatrix a → IsMatrix (fold (plus_word g) a words)
+-- a matrix, joined with those of words
+pub union_is_matrix : (g : SchemaValue) → length g.kinds ≤ types_most → (a : Table) → a.kinds ≡ g.kinds → (words : List (List Symbol)) → IsMatrix a → IsMatrix (fold (plus_word g) a words)
 union_is_matrix g few a kinds [] is = is
 union_is_matrix g few a kinds (word ∷ words) is =
     let one = word_is_matrix g (one_of g.kinds) word (IsMatrix-one_of g.kinds few) in

@@ -1,6 +1,6 @@
 pub mod Drawn
 pub mod Values
-pub mod Sparse
+pub mod Columns
 pub mod Wide
 pub mod Query
 pub mod Drawers

@@ -1,145 +1,156 @@
-//! The matrix of a word, symbol by symbol: of a label's matrix only the entries that are met are looked at.
+//! The matrix of a word, symbol by symbol and edge by edge, for all types from which a path leads at once.
 
-ghost use Rattle.std.specs.Prelude.{◌≡◌, ◌≤◌, ◌<◌, length, slice_index_or, None, true, OnOk};
-ghost use Rattle.std.specs.List.{list_all};
-ghost use Rattle.sel_algebra.specs.Table.{types_most, laid_out, times_of, one_of};
-ghost use Rattle.schema_graph.specs.Symbols.{symbols_of};
+ghost use Rattle.std.specs.Prelude.{◌≡◌, ◌≤◌, ◌<◌, ◌++◌, length, map, true, false, IfOk, OnOk};
+ghost use Rattle.std.specs.List.{list_all, range_with_len};
+ghost use Rattle.sel_algebra.specs.Table.{Table, types_most, entry};
+ghost use Rattle.schema_graph.specs.Edge.{label_of};
+ghost use Rattle.schema_graph.specs.Schema.{IsSchema};
+ghost use Rattle.gm_config.specs.Limits.{labels_most};
 ghost use Rattle.query_terms.specs.Values.{has_edge};
-ghost use Rattle.query_draw.specs.Wide.{symbol_matrix, word_matrix};
-ghost use Rattle.query_draw.specs.Sparse.{place_in, IsPlace, IsSparse, IsFree, Joins, EqualBelow, StepsBy, StepsBelow, GoesOn};
+ghost use Rattle.query_draw.specs.Wide.{word_matrix};
+ghost use Rattle.query_draw.specs.Columns.{labelled, edge_if, IsWork, AreGrowing, AreColumns, JoinsEdge, JoinsSymbol};
 
-use crate::sparse::{Place, Sparse, clear, entry_at, join_at};
-use schema_graph::Schema;
-use sel_algebra::{Op, Symbol, compose, normal};
-use std::alloc::AllocError;
+use crate::columns::{
+    Column, clear, enter_equal, followed_column, growing_types, joined_column, no_column,
+    normal_column,
+};
+use gm_text::Items;
+use schema_graph::{LABELS_MOST, Schema};
+use sel_algebra::Symbol;
+use std::alloc::{AllocError, Global};
 use std::mem;
 
-/// Makes a matrix with no entries that of a word. The other matrix has none before and after.
-pub(crate) fn follow_word(
-    schema: &Schema,
-    word: &[Symbol],
-    matrix: &mut Sparse,
-    spare: &mut Sparse,
-) -> Result<(), AllocError>
+/// What matrices of words are worked out with, over the types of a schema.
+#[derive(Drop)]
+pub(crate) struct Work {
+    /// The set of the growing types.
+    pub growing: u64,
+    /// For each label the numbers of its edges.
+    pub edges: Vec<Items<u8>>,
+    /// The matrix of a word.
+    pub word: Vec<Column>,
+    /// The matrix of a word with a further symbol.
+    pub longer: Vec<Column>,
+    /// The join of the matrices of words.
+    pub union: Vec<Column>,
+}
+
+impl Work {
+    /// What is needed for a schema.
+    pub(crate) fn new(alloc: Global, schema: &Schema) -> Result<Work, AllocError>
+        ensures { IfOk result (IsWork schema.now) }
+    {
+        let count = schema.kind_count() as usize;
+        Ok(Work {
+            growing: growing_types(schema.kinds()),
+            edges: edge_lists(alloc, schema)?,
+            word: vec![in alloc; no_column(); count]?,
+            longer: vec![in alloc; no_column(); count]?,
+            union: vec![in alloc; no_column(); count]?,
+        })
+    }
+}
+
+/// For each label the numbers of its edges.
+fn edge_lists(alloc: Global, schema: &Schema) -> Result<Vec<Items<u8>>, AllocError>
+    ensures { IfOk result (λ lists. lists.items ≡ map (labelled schema.now.edges) (range_with_len 0 labels_most)) }
+{
+    let mut lists = Vec::new(alloc);
+    for label in 0..LABELS_MOST as u8 {
+        lists.push(labelled(alloc, schema, label)?)?;
+    }
+    Ok(lists)
+}
+
+/// The numbers of the edges with a label.
+fn labelled(alloc: Global, schema: &Schema, label: u8) -> Result<Items<u8>, AllocError>
+    ensures { IfOk result (λ edges. edges ≡ labelled schema.now.edges label) }
+{
+    let mut edges = Vec::new(alloc);
+    for edge in 0..schema.edge_count() {
+        push_if(schema.edge(edge).label == label, &mut edges, edge)?;
+    }
+    Ok(Items::of(edges))
+}
+
+/// Adds the number of an edge, if it is wanted.
+fn push_if(wanted: bool, edges: &mut Vec<u8>, edge: u8) -> Result<(), AllocError>
+    ensures { OnOk result (edges.new.items ≡ edges.old.items ++ edge_if wanted edge) }
+{
+    if wanted {
+        edges.push(edge)?;
+    }
+    Ok(())
+}
+
+/// Works out the matrix of a word.
+pub(crate) fn follow_word(schema: &Schema, word: &[Symbol], work: &mut Work)
     requires edges { list_all (has_edge (length schema.now.edges)) word.now ≡ true }
-    requires matrix { IsFree (length schema.now.kinds) matrix.old }
-    requires spare { IsFree (length schema.now.kinds) spare.old }
-    ensures word { OnOk result (laid_out schema.now.kinds matrix.new.cells.items ≡ word_matrix schema.now word.now) }
-    ensures sparse { OnOk result (IsSparse (length schema.now.kinds) matrix.new) }
-    ensures spare { OnOk result (IsFree (length schema.now.kinds) spare.new) }
+    requires work { IsWork schema.now work.old }
+    ensures word { AreColumns (length schema.now.kinds) work.new.word.items (entry (word_matrix schema.now word.now)) }
+    ensures work { IsWork schema.now work.new }
+    ensures union { work.new.union ≡ work.old.union }
 {
-    let count = schema.kind_count();
-    enter_equal(count, matrix)?;
+    enter_equal(work.word.as_mut_slice());
     for symbol in word {
-        follow_symbol(schema, *symbol, matrix, spare)?;
-        mem::swap(matrix, spare);
-        clear(count as usize, spare);
+        let edges = work.edges[schema.label_of(*symbol) as usize].as_slice();
+        follow_symbol(
+            schema,
+            work.growing,
+            edges,
+            *symbol,
+            work.word.as_slice(),
+            work.longer.as_mut_slice(),
+        );
+        mem::swap(&mut work.word, &mut work.longer);
     }
-    Ok(())
 }
 
-/// Makes a matrix with no entries the one that is `Equal` from each type to itself.
-fn enter_equal(count: u8, matrix: &mut Sparse) -> Result<(), AllocError>
-    requires few { count ≤ types_most }
-    requires matrix { IsFree count matrix.old }
-    ensures sparse { OnOk result (IsSparse count matrix.new) }
-    ensures joins { OnOk result (Joins (EqualBelow count count) matrix.old.cells.items matrix.new.cells.items) }
-{
-    for t in 0..count {
-        join_at(count as usize, matrix, Place { from: t, to: t }, Op::Equal)?;
-    }
-    Ok(())
-}
-
-/// Makes a matrix with no entries the product of another one with the matrix of a symbol.
+/// Makes a matrix the product of another one with the matrix of a symbol, by the edges of its label.
 fn follow_symbol(
     schema: &Schema,
+    growing: u64,
+    edges: &[u8],
     symbol: Symbol,
-    matrix: &Sparse,
-    product: &mut Sparse,
-) -> Result<(), AllocError>
-    requires edge { has_edge (length schema.now.edges) symbol ≡ true }
-    requires matrix { IsSparse (length schema.now.kinds) matrix.now }
-    requires product { IsFree (length schema.now.kinds) product.old }
-    ensures sparse { OnOk result (IsSparse (length schema.now.kinds) product.new) }
-    ensures product { OnOk result (laid_out schema.now.kinds product.new.cells.items ≡ times_of (laid_out schema.now.kinds matrix.now.cells.items) (symbol_matrix schema.now symbol)) }
+    matrix: &[Column],
+    product: &mut [Column],
+)
+    requires schema { IsSchema schema.now }
+    requires growing { AreGrowing schema.now.kinds growing }
+    requires edges { edges.now ≡ labelled schema.now.edges (label_of schema.now.edges symbol) }
+    requires matrix { length matrix.now ≡ length schema.now.kinds }
+    requires product { length product.old ≡ length schema.now.kinds }
+    ensures whole { length product.new ≡ length schema.now.kinds }
+    ensures product { JoinsSymbol schema.now symbol matrix.now product.new }
 {
-    let label = schema.label_of(symbol);
-    let count = schema.kind_count();
-    for at in &matrix.places {
-        let entry = entry_at(count as usize, matrix, *at);
-        go_on(schema, label, symbol.back, *at, entry, product)?;
-    }
-    Ok(())
-}
-
-/// Joins the paths of an entry and then along the edges of a label, all in one direction.
-fn go_on(
-    schema: &Schema,
-    label: u8,
-    back: bool,
-    at: Place,
-    entry: Option<Op>,
-    product: &mut Sparse,
-) -> Result<(), AllocError>
-    requires at { IsPlace (length schema.now.kinds) at }
-    requires product { IsSparse (length schema.now.kinds) product.old }
-    ensures sparse { OnOk result (IsSparse (length schema.now.kinds) product.new) }
-    ensures joins { OnOk result (Joins (GoesOn schema.now label back at entry) product.old.cells.items product.new.cells.items) }
-{
-    match entry {
-        Some(op) => step_on(schema, label, back, at, op, product),
-        None => Ok(()),
+    clear(product);
+    for edge in edges {
+        let next = Symbol {
+            edge: *edge,
+            back: symbol.back,
+        };
+        follow_edge(schema, growing, next, matrix, product);
     }
 }
 
-/// Joins the paths of an operator at a place and then along the edges of a label, all in one direction.
-fn step_on(
+/// Joins the paths of a matrix and then along one edge.
+fn follow_edge(
     schema: &Schema,
-    label: u8,
-    back: bool,
-    at: Place,
-    op: Op,
-    product: &mut Sparse,
-) -> Result<(), AllocError>
-    requires at { IsPlace (length schema.now.kinds) at }
-    requires product { IsSparse (length schema.now.kinds) product.old }
-    ensures sparse { OnOk result (IsSparse (length schema.now.kinds) product.new) }
-    ensures joins { OnOk result (Joins (StepsBelow schema.now label back at op (length (symbols_of schema.now.edges at.to))) product.old.cells.items product.new.cells.items) }
-{
-    for n in 0..schema.symbol_count(at.to) {
-        let next = schema.symbol_from(at.to, n);
-        step_by(schema, label, back, at, op, next, product)?;
-    }
-    Ok(())
-}
-
-/// Joins the path of an operator at a place and then along a symbol, if it has the label and the direction.
-fn step_by(
-    schema: &Schema,
-    label: u8,
-    back: bool,
-    at: Place,
-    op: Op,
+    growing: u64,
     next: Symbol,
-    product: &mut Sparse,
-) -> Result<(), AllocError>
-    requires at { IsPlace (length schema.now.kinds) at }
+    matrix: &[Column],
+    product: &mut [Column],
+)
+    requires growing { AreGrowing schema.now.kinds growing }
     requires next { next.edge < length schema.now.edges }
-    requires product { IsSparse (length schema.now.kinds) product.old }
-    ensures sparse { OnOk result (IsSparse (length schema.now.kinds) product.new) }
-    ensures joins { OnOk result (Joins (StepsBy schema.now label back at op next) product.old.cells.items product.new.cells.items) }
+    requires matrix { length matrix.now ≡ length schema.now.kinds }
+    requires product { length product.old ≡ length schema.now.kinds }
+    ensures whole { length product.new ≡ length schema.now.kinds }
+    ensures joins { JoinsEdge schema.now growing next matrix.now product.old product.new }
 {
-    if next.back != back || schema.label_of(next) != label {
-        return Ok(());
-    }
     let to = schema.end_of(next);
-    let path = compose(op, schema.op_of(next));
-    let path = normal(path, schema.kind(at.from), schema.kind(to));
-    join_at(
-        schema.kind_count() as usize,
-        product,
-        Place { from: at.from, to },
-        path,
-    )
+    let from = schema.start_of(next);
+    let path = followed_column(matrix[from as usize], schema.op_of(next));
+    let path = normal_column(path, growing, schema.kind(to));
+    product[to as usize] = joined_column(product[to as usize], path);
 }

@@ -4,6 +4,7 @@
 #![tactic(auto)]
 
 mod along;
+mod columns;
 mod drawer;
 mod drawing;
 mod errors;
@@ -14,7 +15,6 @@ mod paths;
 mod plan;
 mod query;
 mod rules;
-mod sparse;
 mod wide;
 mod words;
 

@@ -9,11 +9,11 @@ ghost use Rattle.query_terms.specs.Values.{is_word, is_conjunct, is_rule};
 ghost use Rattle.query_terms.specs.Spans.{cut, lies};
 ghost use Rattle.query_terms.specs.Lists.{words_in, conjunct_in, conjuncts_in, rule_in};
 ghost use Rattle.query_terms.specs.View.{query_value};
-ghost use Rattle.query_draw.specs.Sparse.{IsFree};
+ghost use Rattle.query_draw.specs.Columns.{IsWork};
 ghost use Rattle.query_draw.specs.Wide.{union_matrix, conjunct_matrix, spine_matrix, rule_wide, query_wide};
 
-use crate::along::follow_word;
-use crate::sparse::{Sparse, clear, join_all, no_entries};
+use crate::along::{Work, follow_word};
+use crate::columns::{clear, join_all, matrix_of};
 use gm_text::Span;
 use query_terms::{Conjunct, Query, Rule};
 use schema_graph::Schema;
@@ -81,37 +81,31 @@ fn spine_matrix(
     requires edges { list_all (is_conjunct (length schema.now.edges)) (conjuncts_in query.now.symbols.now query.now.words.now conjuncts.now) ≡ true }
     ensures { IfOk result (λ matrix. matrix ≡ spine_matrix schema.now (conjuncts_in query.now.symbols.now query.now.words.now conjuncts.now)) }
 {
-    let mut word = no_entries(alloc, schema.kinds())?;
-    let mut spare = no_entries(alloc, schema.kinds())?;
+    let mut work = Work::new(alloc, schema)?;
     let mut matrix = Matrix::one(alloc, schema.kinds())?;
     for conjunct in conjuncts {
-        let next = conjunct_matrix(alloc, schema, query, conjunct, &mut word, &mut spare)?;
+        let next = conjunct_matrix(alloc, schema, query, conjunct, &mut work)?;
         matrix = matrix.times(alloc, &next)?;
     }
     Ok(matrix)
 }
 
 /// The matrix of a conjunct: the join of its words, and the closure of that where it is starred.
-///
-/// Two matrices with no entries are given for the work, and have none after it.
 fn conjunct_matrix(
     alloc: Global,
     schema: &Schema,
     query: &Query<'_>,
     conjunct: &Conjunct,
-    word: &mut Sparse,
-    spare: &mut Sparse,
+    work: &mut Work,
 ) -> Result<Matrix, AllocError>
     requires lies { lies (length query.now.words.now) conjunct.now.words ≡ true }
     requires edges { is_conjunct (length schema.now.edges) (conjunct_in (words_in query.now.symbols.now query.now.words.now) conjunct.now) ≡ true }
-    requires word { IsFree (length schema.now.kinds) word.old }
-    requires spare { IsFree (length schema.now.kinds) spare.old }
+    requires work { IsWork schema.now work.old }
     ensures value { IfOk result (λ matrix. matrix ≡ conjunct_matrix schema.now (conjunct_in (words_in query.now.symbols.now query.now.words.now) conjunct.now)) }
-    ensures word { OnOk result (IsFree (length schema.now.kinds) word.new) }
-    ensures spare { OnOk result (IsFree (length schema.now.kinds) spare.new) }
+    ensures work { OnOk result (IsWork schema.now work.new) }
 {
     let words = cut(query.words, conjunct.words);
-    let union = union_matrix(alloc, schema, query, words, word, spare)?;
+    let union = union_matrix(alloc, schema, query, words, work)?;
     if conjunct.star {
         union.closure(alloc)
     } else {
@@ -120,32 +114,25 @@ fn conjunct_matrix(
 }
 
 /// The join of the matrices of words.
-///
-/// Two matrices with no entries are given for the work, and have none after it.
 fn union_matrix(
     alloc: Global,
     schema: &Schema,
     query: &Query<'_>,
     words: &[Span],
-    word: &mut Sparse,
-    spare: &mut Sparse,
+    work: &mut Work,
 ) -> Result<Matrix, AllocError>
     requires lie { list_all (lies (length query.now.symbols.now)) words.now ≡ true }
     requires edges { list_all (is_word (length schema.now.edges)) (words_in query.now.symbols.now words.now) ≡ true }
-    requires word { IsFree (length schema.now.kinds) word.old }
-    requires spare { IsFree (length schema.now.kinds) spare.old }
+    requires work { IsWork schema.now work.old }
     ensures value { IfOk result (λ matrix. matrix ≡ union_matrix schema.now (words_in query.now.symbols.now words.now)) }
-    ensures word { OnOk result (IsFree (length schema.now.kinds) word.new) }
-    ensures spare { OnOk result (IsFree (length schema.now.kinds) spare.new) }
+    ensures work { OnOk result (IsWork schema.now work.new) }
 {
-    let count = schema.kind_count() as usize;
-    let mut union = Matrix::zero(alloc, schema.kinds())?;
+    clear(work.union.as_mut_slice());
     for span in words {
-        follow_word(schema, cut(query.symbols, *span), word, spare)?;
-        join_all(&mut union, word);
-        clear(count, word);
+        follow_word(schema, cut(query.symbols, *span), work);
+        join_all(work.union.as_mut_slice(), work.word.as_slice());
     }
-    Ok(union)
+    matrix_of(alloc, schema.kinds(), work.union.as_slice())
 }
 
 /// The greater of two classes, `None` being below all.

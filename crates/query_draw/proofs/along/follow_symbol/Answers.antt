@@ -1,60 +1,41 @@
-use Rattle.std.proofs.Common.{◌≡◌, length, slice_index_or, None, ap, sym, subst, ◌∙◌, arith}
-use Rattle.sel_algebra.specs.Table.{laid_out, times_of}
-use Rattle.schema_graph.specs.Labelled.{matrix_of}
-use Rattle.query_draw.specs.declared.sparse.Place.{Place}
-use Rattle.query_draw.specs.Sparse.{no_place, place_in, IsPlace, Joins, AllBelow, GoesOn}
-use Rattle.query_draw.proofs.SparseLemmas.{nth_lies, Joins-none, Joins-more}
-use Rattle.query_draw.proofs.AlongLemmas.{GoesFrom, Stays-GoesFrom, product_is}
+use Rattle.std.proofs.Common.{◌≡◌, ◌<◌, length, slice_index_or, sym, subst, arith}
+use Rattle.schema_graph.specs.Edge.{label_of}
+use Rattle.query_draw.specs.Columns.{no_entry, AreColumns}
+use Rattle.query_draw.proofs.AlongLemmas.{labelled-edge, Follows, Follows-none, Follows-more, Follows-all}
 use Rattle.query_draw.proofs.along.follow_symbol.Goals as goal
 
-pub loop-at-init : goal.loop-at-init
-loop-at-init c =
-    let m = c.args.matrix.now in
-    record {
-      sparse = c.requires.product.sparse;
-      joins = Joins-none (GoesFrom c.args.schema.now c.label_of-label.result c.args.symbol.back m.cells.items m.places.items) c.args.product.now.cells.items;
-    }
-
-pub entry_at-entry-requires-clause-at : goal.entry_at-entry-requires-clause-at
-entry_at-entry-requires-clause-at c =
-    let items = c.deref-at-items.result.now in
-    subst (λ n. IsPlace n (slice_index_or items c.loop-at.at-index no_place)) (sym c.kind_count-count.ensures.count)
-    (nth_lies (length c.args.schema.now.kinds) items c.args.matrix.now.places.items c.loop-at.at-index c.deref-at-items.ensures.value c.requires.matrix.within c.loop-at-test.true)
-
-pub go_on-requires-clause-at : goal.go_on-requires-clause-at
-go_on-requires-clause-at c =
-    nth_lies (length c.args.schema.now.kinds) c.deref-at-items.result.now c.args.matrix.now.places.items c.loop-at.at-index c.deref-at-items.ensures.value c.requires.matrix.within c.loop-at-test.true
-
-pub loop-at-preserved : goal.loop-at-preserved
-loop-at-preserved c =
+pub loop-edge-init : goal.loop-edge-init
+loop-edge-init c =
     let g = c.args.schema.now in
-    let m = c.args.matrix.now in
-    let label = c.label_of-label.result in
-    let back = c.args.symbol.back in
-    let i = c.loop-at.at-index in
-    let at : Place = slice_index_or c.deref-at-items.result.now i no_place in
-    let entry = c.entry_at-entry.ensures ∙ ap (λ n. slice_index_or m.cells.items (place_in n at) None) c.kind_count-count.ensures.count in
-    let here = subst (λ x. Joins (GoesOn g label back at x) c.loop-at.product.cells.items c.go_on.new.product.cells.items) entry c.in_ok-go_on.ensures.joins in
+    let cleared = subst (λ n. AreColumns n c.clear.new.columns no_entry) c.requires.product c.clear.ensures in
     record {
-      sparse = c.in_ok-go_on.ensures.sparse;
-      joins =
-          Joins-more (GoesFrom g label back m.cells.items m.places.items) i c.args.product.now.cells.items c.loop-at.product.cells.items c.go_on.new.product.cells.items
-          (Stays-GoesFrom g label back m.cells.items m.places.items) c.loop-at.invariant.joins
-          (subst (λ ps. Joins (GoesFrom g label back m.cells.items ps i) c.loop-at.product.cells.items c.go_on.new.product.cells.items) c.deref-at-items.ensures.value here);
+      whole = cleared.whole;
+      follows = Follows-none g c.args.symbol.back c.args.edges.now c.args.matrix.now c.clear.new.columns cleared;
     }
 
-pub returns : goal.returns
-returns c =
+pub follow_edge-requires-clause-next : goal.follow_edge-requires-clause-next
+follow_edge-requires-clause-next c =
     let g = c.args.schema.now in
-    let m = c.args.matrix.now in
-    let label = c.label_of-label.result in
-    let back = c.args.symbol.back in
-    let at_end : c.loop-at.at-index ≡ length c.deref-at-items.result.now = omega (arith, c.loop-at-test.false, c.loop-at.auto.at-index-end) in
-    let all = subst (λ n. Joins (AllBelow n (GoesFrom g label back m.cells.items m.places.items)) c.args.product.now.cells.items c.loop-at.product.cells.items) (at_end ∙ ap length c.deref-at-items.ensures.value) c.loop-at.invariant.joins in
+    subst (λ es. slice_index_or es c.loop-edge.edge-index 0 < length g.edges) (sym c.requires.edges)
+    (labelled-edge g.edges (label_of g.edges c.args.symbol) c.loop-edge.edge-index 0 (subst (λ es. c.loop-edge.edge-index < length es) c.requires.edges c.loop-edge-test.true))
+
+pub loop-edge-preserved : goal.loop-edge-preserved
+loop-edge-preserved c =
+    let g = c.args.schema.now in
+    let known =
+    subst (λ es. slice_index_or es c.loop-edge.edge-index 0 < length g.edges) (sym c.requires.edges)
+    (labelled-edge g.edges (label_of g.edges c.args.symbol) c.loop-edge.edge-index 0 (subst (λ es. c.loop-edge.edge-index < length es) c.requires.edges c.loop-edge-test.true)) in
     record {
-      sparse = c.loop-at.invariant.sparse;
-      product =
-          product_is g c.label_of-label.ensures.schema label back m.cells.items c.args.product.now.cells.items c.loop-at.product.cells.items m.places.items c.requires.matrix.within c.requires.matrix.listed
-          c.requires.product.none c.loop-at.invariant.sparse.whole all
-          ∙ ap (λ l. times_of (laid_out g.kinds m.cells.items) (matrix_of g l back)) c.label_of-label.ensures.label;
+      whole = c.follow_edge.ensures.whole;
+      follows =
+          Follows-more g c.args.growing c.args.symbol.back c.args.edges.now c.args.matrix.now c.loop-edge.product c.follow_edge.new.product c.loop-edge.edge-index
+          c.requires.schema c.ranges.growing.fits c.requires.growing known c.loop-edge.invariant.follows c.follow_edge.ensures.joins;
     }
+
+pub returns-clause-product : goal.returns-clause-product
+returns-clause-product c =
+    let g = c.args.schema.now in
+    let edges = c.args.edges.now in
+    let all : c.loop-edge.edge-index ≡ length edges = omega (arith, c.loop-edge-test.false, c.loop-edge.auto.edge-index-end) in
+    Follows-all g c.requires.schema c.args.symbol edges c.args.matrix.now c.loop-edge.product c.requires.edges
+    (subst (Follows g c.args.symbol.back edges c.args.matrix.now c.loop-edge.product) all c.loop-edge.invariant.follows)

@@ -1,10 +1,9 @@
-use Rattle.std.proofs.Common.{length}
-use Rattle.query_draw.specs.Sparse.{IsSparse, Joins, AllBelow}
-use Rattle.query_draw.proofs.AlongLemmas.{GoesFrom}
+use Rattle.std.proofs.Common.{◌≡◌, length}
+use Rattle.query_draw.proofs.AlongLemmas.{Follows}
 use Rattle.query_draw.proofs.along.follow_symbol.Given as goal
 
-abbrev pub invariant-loop-at : goal.invariant-loop-at
-invariant-loop-at l = record {
-  sparse : IsSparse (length l.schema.kinds) l.product;
-  joins : Joins (AllBelow l.at-index (GoesFrom l.schema l.label l.symbol.back l.matrix.cells.items l.matrix.places.items)) l.fn.product.cells.items l.product.cells.items;
+abbrev pub invariant-loop-edge : goal.invariant-loop-edge
+invariant-loop-edge l = record {
+  whole : length l.product ≡ length l.schema.kinds;
+  follows : Follows l.schema l.symbol.back l.edges l.matrix l.product l.edge-index;
 }

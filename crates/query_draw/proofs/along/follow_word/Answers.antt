@@ -1,45 +1,74 @@
-use Rattle.std.proofs.Common.{length, refl, ap, sym, subst, ◌∙◌}
+use Rattle.std.proofs.Common.{◌≤◌, ◌+◌, false, length, take, slice_index_or, refl, ap, sym, subst, ◌∙◌}
 use Rattle.std.specs.List.{fold}
-use Rattle.std.proofs.lemmas.List.{take_all}
-use Rattle.sel_algebra.specs.Table.{laid_out, one_of}
+use Rattle.std.proofs.lemmas.List.{with_items_is}
+use Rattle.gm_config.specs.Limits.{labels_most}
+use Rattle.sel_algebra.specs.Table.{types_most, entry, one_at, one_of, times_of}
+use Rattle.schema_graph.specs.Edge.{label_of}
+use Rattle.query_draw.specs.Columns.{AreColumns}
 use Rattle.query_draw.specs.Wide.{symbol_matrix, times_symbol}
-use Rattle.query_draw.specs.Sparse.{IsSparse, IsFree, Joins, EqualBelow}
-use Rattle.query_draw.proofs.AlongLemmas.{one_is}
+use Rattle.query_draw.proofs.ColumnLemmas.{AreColumns-table_of}
+use Rattle.query_draw.proofs.AlongLemmas.{labelled-at}
+use Rattle.query_draw.proofs.WideLemmas.{word_kinds}
 use Rattle.query_draw.proofs.MatrixLemmas.{word_more}
 use Rattle.query_draw.proofs.along.follow_word.Goals as goal
+
+pub enter_equal-requires : goal.enter_equal-requires
+enter_equal-requires c = subst (λ n. n ≤ types_most) (sym (ap length c.as_mut_slice.ensures.value ∙ c.requires.work.word)) c.requires.work.few
 
 pub loop-symbol-init : goal.loop-symbol-init
 loop-symbol-init c =
     let g = c.args.schema.now in
-    let count = c.kind_count-count.ensures.count in
-    let new = c.enter_equal.new.matrix in
-    let sparse = subst (λ n. IsSparse n new) count c.in_ok-enter_equal.ensures.sparse in
+    let work = c.args.work.now in
+    let new = c.enter_equal.new.columns in
+    let long = ap length c.as_mut_slice.ensures.value ∙ c.requires.work.word in
+    let one = AreColumns-table_of g.kinds new one_at (subst (λ n. AreColumns n new one_at) long c.enter_equal.ensures) in
+    let items = with_items_is work.word new (one.whole ∙ (sym c.requires.work.word ∙ sym work.word.ok.0)) in
     record {
-      product =
-          one_is g.kinds c.args.matrix.now.cells.items new.cells.items c.requires.matrix.none sparse.whole
-          (subst (λ n. Joins (EqualBelow n n) c.args.matrix.now.cells.items new.cells.items) count c.in_ok-enter_equal.ensures.joins);
-      sparse = sparse;
-      spare = c.requires.spare;
+      word = subst (λ cs. AreColumns (length g.kinds) cs (entry (one_of g.kinds))) (sym items) one;
+      work = record {
+        few = c.requires.work.few;
+        growing = c.requires.work.growing;
+        edges = c.requires.work.edges;
+        word = ap length items ∙ one.whole;
+        longer = c.requires.work.longer;
+        union = c.requires.work.union;
+      };
+      union = refl;
     }
+
+pub follow_symbol-requires-clause-edges : goal.follow_symbol-requires-clause-edges
+follow_symbol-requires-clause-edges c =
+    let g = c.args.schema.now in
+    let lists = c.loop-symbol.work.edges.items in
+    let s = slice_index_or c.args.word.now c.loop-symbol.symbol-index (record { edge = 0; back = false }) in
+    let none = c.index.result.now in
+    c.as_slice-edges.ensures
+    ∙ (c.index.ensures ∙ (ap (λ l. slice_index_or lists l none) c.label_of.ensures.label
+    ∙ labelled-at g.edges lists labels_most (label_of g.edges s) none c.loop-symbol.invariant.work.edges c.label_of.ensures.within.label))
 
 pub loop-symbol-preserved : goal.loop-symbol-preserved
 loop-symbol-preserved c =
     let g = c.args.schema.now in
-    let next = c.follow_symbol.new.product in
+    let n = length g.kinds in
+    let work = c.loop-symbol.work in
+    let kept = c.loop-symbol.invariant in
+    let i = c.loop-symbol.symbol-index in
+    let word = c.args.word.now in
+    let s = slice_index_or word i (record { edge = 0; back = false }) in
+    let t = fold (times_symbol g) (one_of g.kinds) (take i word) in
+    let new = c.follow_symbol.new.product in
+    let product = c.follow_symbol.ensures.product t (word_kinds g (one_of g.kinds) (take i word)) (subst (λ cs. AreColumns n cs (entry t)) (sym c.as_slice.ensures.value) kept.word) in
+    let more = word_more g t (symbol_matrix g s) (times_of t (symbol_matrix g s)) word i (record { edge = 0; back = false }) c.loop-symbol-test.true refl refl refl in
+    let items = ap (λ v. v.items) c.swap.ensures.x_after ∙ with_items_is work.longer new (c.follow_symbol.ensures.whole ∙ (sym kept.work.longer ∙ sym work.longer.ok.0)) in
     record {
-      product =
-          ap (λ m. laid_out g.kinds m.cells.items) c.swap.ensures.x_after
-          ∙ word_more g (laid_out g.kinds c.loop-symbol.matrix.cells.items) (symbol_matrix g _) (laid_out g.kinds next.cells.items) c.args.word.now c.loop-symbol.symbol-index _ c.loop-symbol-test.true
-          c.loop-symbol.invariant.product refl c.in_ok-follow_symbol.ensures.product;
-      sparse = subst (IsSparse (length g.kinds)) (sym c.swap.ensures.x_after) c.in_ok-follow_symbol.ensures.sparse;
-      spare = subst (λ n. IsFree n c.clear.new.matrix) c.kind_count-count.ensures.count c.clear.ensures;
-    }
-
-pub returns : goal.returns
-returns c =
-    let g = c.args.schema.now in
-    record {
-      word = c.loop-symbol.invariant.product ∙ ap (fold (times_symbol g) (one_of g.kinds)) (take_all c.loop-symbol.symbol-index c.args.word.now c.loop-symbol-test.false);
-      sparse = c.loop-symbol.invariant.sparse;
-      spare = c.loop-symbol.invariant.spare;
+      word = subst (λ cs. AreColumns n cs (entry (fold (times_symbol g) (one_of g.kinds) (take (i + 1) word)))) (sym items) (subst (λ m. AreColumns n new (entry m)) more product);
+      work = record {
+        few = kept.work.few;
+        growing = kept.work.growing;
+        edges = kept.work.edges;
+        word = ap length items ∙ c.follow_symbol.ensures.whole;
+        longer = ap (λ v. length v.items) c.swap.ensures.y_after ∙ kept.work.word;
+        union = kept.work.union;
+      };
+      union = kept.union;
     }

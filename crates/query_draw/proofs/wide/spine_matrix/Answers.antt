@@ -27,6 +27,5 @@ loop-conjunct-preserved c =
           spine_more g q.symbols.now q.words.now c.loop-conjunct.matrix c.in_ok-next.next c.in_ok-matrix-2.matrix c.args.conjuncts.now i item.result c.loop-conjunct-test.true
           (sym item.is) c.loop-conjunct.invariant.product c.in_ok-next.ensures.value c.in_ok-matrix-2.ensures.value;
       kinds = ap (λ t. t.kinds) c.in_ok-matrix-2.ensures.value ∙ c.loop-conjunct.invariant.kinds;
-      word = c.in_ok-next.ensures.word;
-      spare = c.in_ok-next.ensures.spare;
+      work = c.in_ok-next.ensures.work;
     }

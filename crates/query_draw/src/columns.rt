@@ -1,0 +1,219 @@
+//! Matrices by columns of bits: a column has all entries to one type, by sets of the types from which they lead.
+
+ghost use Rattle.std.specs.Prelude.{◌≡◌, ◌≤◌, ◌<◌, ℕ, length, slice_index_or, slice_set, None, IfOk};
+ghost use Rattle.sel_algebra.specs.Entries.{IsNormalEntry};
+ghost use Rattle.sel_algebra.specs.Table.{types_most, kind_at, IsMatrix, EachPair, entry, table_of, one_at};
+ghost use Rattle.query_draw.specs.Columns.{has, is_growing, AreGrowing, no_column, no_entry, column_at, AreColumns, AreJoined, equal_column, joined_column, followed_column, normal_column, told, told_at, AreNormal, EntersColumn};
+
+use sel_algebra::{Kind, Matrix, Op};
+use std::alloc::{AllocError, Global};
+
+/// The entries to one type, by sets of the types from which they lead: bit `t` of a set stands for type `t`.
+#[derive(Clone, Copy, Debug, PartialEq, Eq)]
+pub(crate) struct Column {
+    /// Those whose entry is there.
+    pub there: u64,
+    /// Those whose entry is at least `Less`.
+    pub less: u64,
+    /// Those whose entry is at least `Greater`.
+    pub greater: u64,
+    /// Those whose entry is `Cross`.
+    pub cross: u64,
+}
+
+/// The column with no entries.
+pub(crate) fn no_column() -> Column
+    ensures { result ≡ no_column }
+{
+    Column {
+        there: 0,
+        less: 0,
+        greater: 0,
+        cross: 0,
+    }
+}
+
+/// The column with `Equal` from one type, and no other entry.
+fn equal_column(t: usize) -> Column
+    requires { t < types_most }
+    ensures { result ≡ equal_column t }
+{
+    Column {
+        there: 1 << t,
+        less: 0,
+        greater: 0,
+        cross: 0,
+    }
+}
+
+/// The joins of the entries of two columns.
+pub(crate) fn joined_column(a: Column, b: Column) -> Column
+    ensures { result ≡ joined_column a b }
+{
+    Column {
+        there: a.there | b.there,
+        less: a.less | b.less,
+        greater: a.greater | b.greater,
+        cross: a.cross | b.cross,
+    }
+}
+
+/// The compositions of the entries of a column with an operator.
+pub(crate) fn followed_column(column: Column, op: Op) -> Column
+    ensures { result ≡ followed_column column op }
+{
+    let Column {
+        there,
+        less,
+        greater,
+        cross,
+    } = column;
+    let (less, greater, cross) = match op {
+        Op::Equal => (less, greater, cross),
+        Op::Less => (there, greater, greater),
+        Op::Greater => (less, there, cross),
+        Op::Diamond => (there, there, greater),
+        Op::Cross => (there, there, there),
+    };
+    Column {
+        there,
+        less,
+        greater,
+        cross,
+    }
+}
+
+/// The normal forms of the entries of a column to a type of some kind, by the set of the growing types.
+pub(crate) fn normal_column(column: Column, growing: u64, to: Kind) -> Column
+    ensures { result ≡ normal_column column growing to }
+{
+    match to {
+        Kind::Fixed => Column {
+            there: column.there,
+            less: 0,
+            greater: column.there & growing,
+            cross: 0,
+        },
+        Kind::Growing => Column {
+            there: column.there,
+            less: column.less & growing | column.there & !growing,
+            greater: column.greater & growing,
+            cross: column.cross & growing,
+        },
+    }
+}
+
+/// The set of the growing types.
+pub(crate) fn growing_types(kinds: &[Kind]) -> u64
+    requires { length kinds.now ≤ types_most }
+    ensures { AreGrowing kinds.now result }
+{
+    let mut growing = 0;
+    for t in 0..kinds.len() {
+        if is_growing(kinds[t]) {
+            growing |= 1 << t;
+        }
+    }
+    growing
+}
+
+/// Whether a kind is that of the growing types.
+fn is_growing(kind: Kind) -> bool
+    ensures { result ≡ is_growing kind }
+{
+    kind == Kind::Growing
+}
+
+/// Takes all entries away.
+pub(crate) fn clear(columns: &mut [Column])
+    ensures { AreColumns (length columns.old) columns.new no_entry }
+{
+    for t in 0..columns.len() {
+        columns[t] = no_column();
+    }
+}
+
+/// Makes the entry from each type to itself `Equal`, and takes all others away.
+pub(crate) fn enter_equal(columns: &mut [Column])
+    requires { length columns.old ≤ types_most }
+    ensures { AreColumns (length columns.old) columns.new one_at }
+{
+    for t in 0..columns.len() {
+        columns[t] = equal_column(t);
+    }
+}
+
+/// Joins each entry with that of another matrix over as many types.
+pub(crate) fn join_all(sum: &mut [Column], others: &[Column])
+    requires { length sum.old ≡ length others.now }
+    ensures { AreJoined sum.old others.now sum.new (length sum.old) }
+{
+    for t in 0..sum.len() {
+        sum[t] = joined_column(sum[t], others[t]);
+    }
+}
+
+/// Whether a type is in a set.
+fn has(set: u64, t: u8) -> bool
+    requires { t < types_most }
+    ensures { result ≡ has set t }
+{
+    set >> t & 1 == 1
+}
+
+/// The entry of a column from a type.
+fn told(column: Column, t: u8) -> Option<Op>
+    requires { t < types_most }
+    ensures { result ≡ told column t }
+{
+    if !has(column.there, t) {
+        return None;
+    }
+    if has(column.cross, t) {
+        return Some(Op::Cross);
+    }
+    Some(match (has(column.less, t), has(column.greater, t)) {
+        (true, true) => Op::Diamond,
+        (true, false) => Op::Less,
+        (false, true) => Op::Greater,
+        (false, false) => Op::Equal,
+    })
+}
+
+/// The matrix over types of these kinds with the entries of these columns.
+pub(crate) fn matrix_of(
+    alloc: Global,
+    kinds: &[Kind],
+    columns: &[Column],
+) -> Result<Matrix, AllocError>
+    requires few { length kinds.now ≤ types_most }
+    requires whole { length columns.now ≡ length kinds.now }
+    requires normal { AreNormal kinds.now columns.now }
+    ensures { IfOk result (λ matrix. matrix ≡ table_of kinds.now (told_at columns.now)) }
+{
+    let mut matrix = Matrix::zero(alloc, kinds)?;
+    for to in 0..kinds.len() {
+        enter_column(&mut matrix, kinds.len() as u8, columns[to], to as u8);
+    }
+    Ok(matrix)
+}
+
+/// Makes the entries of a column those to a type to which there are none.
+fn enter_column(matrix: &mut Matrix, count: u8, column: Column, to: u8)
+    requires matrix { IsMatrix matrix.old }
+    requires count { count ≡ length matrix.old.kinds }
+    requires to { to < count }
+    requires none { (i : ℕ) → i < count → entry matrix.old i to ≡ None }
+    requires normal { (i : ℕ) → i < count → IsNormalEntry (told column i) (kind_at matrix.old.kinds i) (kind_at matrix.old.kinds to) }
+    ensures entries { EntersColumn matrix.old matrix.new column to count }
+    ensures matrix { IsMatrix matrix.new }
+{
+    if column.there == 0 {
+        return;
+    }
+    for from in 0..count {
+        if let Some(op) = told(column, from) {
+            matrix.set(from, to, op);
+        }
+    }
+}
