@@ -6,7 +6,6 @@ use Rattle.std.proofs.lemmas.List.{append-nil, append_assoc, length-take-le}
 use Rattle.std.proofs.lemmas.List.Folds.{list_all-append}
 use Rattle.std.proofs.lemmas.Option.{slice_get_within, slice_get-get_or, get_or_from_slice_get, same_Some}
 use Rattle.std.proofs.Math.Seq.{split_at}
-use Rattle.gm_text.specs.Name.{is_name}
 use Rattle.path_pairs.specs.Trees.{Tree}
 use Rattle.query_terms.specs.declared.terms.Term.{Term}
 use Rattle.query_terms.specs.declared.terms.Term.TheVariants.{Step, Seq, Alt, Star, Opt}
@@ -16,9 +15,9 @@ use Rattle.query_terms.proofs.SpanLemmas.{and_true}
 use Rattle.query_terms.proofs.TreeLemmas.{tree_at-is}
 use Rattle.sparql_emit.specs.declared.paths.Todo.{Todo}
 use Rattle.sparql_emit.specs.declared.paths.Todo.TheVariants as todo
-use Rattle.sparql_emit.specs.PathText.{name_of, in_parentheses, is_alt, is_seq, path_text_of}
-use Rattle.sparql_emit.specs.Laws.{has_label, has_names}
-use Rattle.sparql_emit.specs.Todo.{is_alt_at, is_seq_at, nested, parts, item_text, todo_text, item_names, item_fits, tree_weight, item_weight, todo_weight}
+use Rattle.sparql_emit.specs.PathText.{in_parentheses, is_alt, is_seq, path_text_of}
+use Rattle.sparql_emit.specs.Laws.{has_names}
+use Rattle.sparql_emit.specs.Todo.{is_alt_at, is_seq_at, nested, step_text, step_names, parts, item_text, todo_text, item_names, item_fits, tree_weight, item_weight, todo_weight}
 
 -- ---- the tree of a term that is in the store
 
@@ -32,7 +31,8 @@ tree_is terms k t store at =
     ∙ (tree_at-is (take k terms) (drop (suc k) terms) t (subst (λ n. ChildrenBelow n t) (sym long) (store.children k t at))
     ∙ ap (λ ts. tree_of (trees_of ts) t) (sym whole))
 
-list_all-get : {X : Type 0} (p : X → Bool) (xs : List X) (k : ℕ) (x : X) → list_all p xs ≡ true → slice_get xs k ≡ Some x → p x ≡ true
+-- what passes for each item of a list passes for one of them
+pub list_all-get : {X : Type 0} (p : X → Bool) (xs : List X) (k : ℕ) (x : X) → list_all p xs ≡ true → slice_get xs k ≡ Some x → p x ≡ true
 list_all-get p [] k x all at = absurd (omega (arith, slice_get_within [] k x at))
 list_all-get p (y ∷ xs) zero x all at = ap p (sym (same_Some y x at)) ∙ (and_parts (p y) (list_all p xs) all).0
 list_all-get p (y ∷ xs) (suc k) x all at = list_all-get p xs k x (and_parts (p y) (list_all p xs) all).1 at
@@ -86,7 +86,7 @@ module _ (names : List (List ℕ)) (trees : List Tree) where
   nested_names true id named = (and_parts (has_names names (tree_in trees id)) true named).0
   nested_names false id named = (and_parts (has_names names (tree_in trees id)) true named).0
 
-  nested_fits : (count : ℕ) (b : Bool) (id : ℕ) → id < count → list_all (item_fits (length names) count) (nested b id) ≡ true
+  nested_fits : (count : ℕ) (b : Bool) (id : ℕ) → id < count → list_all (item_fits count) (nested b id) ≡ true
   nested_fits count true id less = and_true (lt-ltb id count less) refl
   nested_fits count false id less = and_true (lt-ltb id count less) refl
 
@@ -112,9 +112,8 @@ module _ (names : List (List ℕ)) (terms : List Term) (store : IsStore terms) w
       ∙ ((λ i. (nested_text names trees a first i ++ sign ∷ []) ++ nested_text names trees b second i)
       ∙ append_assoc (in_parentheses a (path_text_of names (tree_at terms first))) (sign ∷ []) (in_parentheses b (path_text_of names (tree_at terms second))))
 
-  parts_text : (t : Term) → ChildrenBelow (length terms) t → todo_text names (trees_of terms) (parts terms t) ≡ path_text_of names (tree_of (trees_of terms) t)
-  parts_text (Step label false) below = refl
-  parts_text (Step label true) below = refl
+  parts_text : (t : Term) → ChildrenBelow (length terms) t → step_text names t ++ todo_text names (trees_of terms) (parts terms t) ≡ path_text_of names (tree_of (trees_of terms) t)
+  parts_text (Step label back) below = append-nil (path_text_of names (Tree.Step label back))
   parts_text (Seq a b) below =
       joined_text (is_alt_at terms a) (is_alt_at terms b || is_seq_at terms b) a b 47
       ∙ (λ i. in_parentheses (alt_same a below.0 i) (path_text_of names (tree_at terms a))
@@ -132,28 +131,27 @@ module _ (names : List (List ℕ)) (terms : List Term) (store : IsStore terms) w
       let both = and_parts (list_all test (nested b second)) (list_all test (nested a first)) (sym (list_all-append test (nested b second) (todo.Byte sign ∷ nested a first)) ∙ named) in
       and_true (nested_names names (trees_of terms) a first both.1) (nested_names names (trees_of terms) b second both.0)
 
-  parts_names : (t : Term) → list_all (item_names names (trees_of terms)) (parts terms t) ≡ true → has_names names (tree_of (trees_of terms) t) ≡ true
-  parts_names (Step label false) named = (and_parts _ true named).0
-  parts_names (Step label true) named = (and_parts _ true named).0
-  parts_names (Seq a b) named = joined_names (is_alt_at terms a) (is_alt_at terms b || is_seq_at terms b) a b 47 named
-  parts_names (Alt a b) named = joined_names false (is_alt_at terms b) a b 124 named
-  parts_names (Star a) named = (and_parts _ true named).0
-  parts_names (Opt a) named = (and_parts _ true named).0
+  parts_names : (t : Term) → step_names names t ≡ true → list_all (item_names names (trees_of terms)) (parts terms t) ≡ true
+      → has_names names (tree_of (trees_of terms) t) ≡ true
+  parts_names (Step label back) step named = step
+  parts_names (Seq a b) step named = joined_names (is_alt_at terms a) (is_alt_at terms b || is_seq_at terms b) a b 47 named
+  parts_names (Alt a b) step named = joined_names false (is_alt_at terms b) a b 124 named
+  parts_names (Star a) step named = (and_parts _ true named).0
+  parts_names (Opt a) step named = (and_parts _ true named).0
 
   joined_fits : (a b : Bool) (first second sign : ℕ) → first < length terms → second < length terms
-      → list_all (item_fits (length names) (length terms)) (nested b second ++ (todo.Byte sign ∷ nested a first)) ≡ true
+      → list_all (item_fits (length terms)) (nested b second ++ (todo.Byte sign ∷ nested a first)) ≡ true
   joined_fits a b first second sign one two =
-      let test = item_fits (length names) (length terms) in
+      let test = item_fits (length terms) in
       list_all-append test (nested b second) (todo.Byte sign ∷ nested a first)
       ∙ and_true (nested_fits names (trees_of terms) (length terms) b second two) (nested_fits names (trees_of terms) (length terms) a first one)
 
-  parts_fit : (t : Term) → has_label (length names) t ≡ true → ChildrenBelow (length terms) t → list_all (item_fits (length names) (length terms)) (parts terms t) ≡ true
-  parts_fit (Step label false) labelled below = and_true labelled refl
-  parts_fit (Step label true) labelled below = and_true labelled refl
-  parts_fit (Seq a b) labelled below = joined_fits (is_alt_at terms a) (is_alt_at terms b || is_seq_at terms b) a b 47 below.0 below.1
-  parts_fit (Alt a b) labelled below = joined_fits false (is_alt_at terms b) a b 124 below.0 below.1
-  parts_fit (Star a) labelled below = nested_fits names (trees_of terms) (length terms) true a below
-  parts_fit (Opt a) labelled below = nested_fits names (trees_of terms) (length terms) true a below
+  parts_fit : (t : Term) → ChildrenBelow (length terms) t → list_all (item_fits (length terms)) (parts terms t) ≡ true
+  parts_fit (Step label back) below = refl
+  parts_fit (Seq a b) below = joined_fits (is_alt_at terms a) (is_alt_at terms b || is_seq_at terms b) a b 47 below.0 below.1
+  parts_fit (Alt a b) below = joined_fits false (is_alt_at terms b) a b 124 below.0 below.1
+  parts_fit (Star a) below = nested_fits names (trees_of terms) (length terms) true a below
+  parts_fit (Opt a) below = nested_fits names (trees_of terms) (length terms) true a below
 
 -- ---- the writing
 
@@ -162,7 +160,7 @@ module _ (names : List (List ℕ)) (terms : List Term) where
   pub record Writing (all : List ℕ) (named : Bool) (out : List ℕ) (items : List Todo) : Type 0 where
     pub whole : out ++ todo_text names (trees_of terms) items ≡ all
     pub names_are : list_all (item_names names (trees_of terms)) items ≡ true → named ≡ true
-    pub fit : list_all (item_fits (length names) (length terms)) items ≡ true
+    pub fit : list_all (item_fits (length terms)) items ≡ true
 
   pub writing_begun : (out : List ℕ) (id : ℕ) → id < length terms
       → Writing (out ++ path_text_of names (tree_at terms id)) (has_names names (tree_at terms id)) out (todo.Path id ∷ [])
@@ -188,43 +186,38 @@ module _ (names : List (List ℕ)) (terms : List Term) (store : IsStore terms) (
             ∙ (ap (λ xs. out ++ todo_text names trees xs) (sym is) ∙ w.whole)));
         names_are = λ each. w.names_are
             (ap (list_all (item_names names trees)) is ∙ (list_all-append (item_names names trees) before (item ∷ []) ∙ and_true each (and_true name refl)));
-        fit = (and_parts (list_all (item_fits (length names) (length terms)) before) _
-            (sym (list_all-append (item_fits (length names) (length terms)) before (item ∷ [])) ∙ (ap (list_all (item_fits (length names) (length terms))) (sym is) ∙ w.fit))).0;
+        fit = (and_parts (list_all (item_fits (length terms)) before) _
+            (sym (list_all-append (item_fits (length terms)) before (item ∷ [])) ∙ (ap (list_all (item_fits (length terms))) (sym is) ∙ w.fit))).0;
       }
 
-  -- the name of a label is written
-  pub name_written : (label : ℕ) (name bytes more : List ℕ) → Writing names terms all named out items → items ≡ before ++ todo.Name label ∷ []
-      → slice_get names label ≡ Some name → bytes ≡ name → is_name name ≡ true → more ≡ out ++ bytes → Writing names terms all named more before
-  name_written label name bytes more w is at same passes said =
-      let here : name_of names label ≡ name = get_or_from_slice_get names label name [] at in
-      item_written (todo.Name label) more w is (said ∙ ap (λ (bs : List ℕ). out ++ bs) (same ∙ sym here)) (ap is_name here ∙ passes)
-
-  -- the last item is replaced by what its term consists of
-  pub term_parted : (id : ℕ) (t : Term) (now : List Todo) → Writing names terms all named out items → items ≡ before ++ todo.Path id ∷ [] → slice_get terms id ≡ Some t
-      → list_all (has_label (length names)) terms ≡ true → now ≡ before ++ parts terms t → Writing names terms all named out now
-  term_parted id t now w is at labelled now_is =
+  -- of the last item's term a step is written, or it is replaced by what its term consists of
+  pub term_written : (id : ℕ) (t : Term) (more : List ℕ) (now : List Todo) → Writing names terms all named out items → items ≡ before ++ todo.Path id ∷ [] → slice_get terms id ≡ Some t
+      → more ≡ out ++ step_text names t → step_names names t ≡ true → now ≡ before ++ parts terms t → Writing names terms all named more now
+  term_written id t more now w is at said step now_is =
       let trees = trees_of terms in
       let below = parts_below terms id t store at in
       let same : tree_at terms id ≡ tree_of trees t = tree_is terms id t store at in
-      let fits = item_fits (length names) (length terms) in
+      let fits = item_fits (length terms) in
       record {
-        whole = ap (λ xs. out ++ todo_text names trees xs) now_is
+        whole = (λ i. said i ++ todo_text names trees (now_is i))
+            ∙ (ap (λ (bs : List ℕ). (out ++ step_text names t) ++ bs) (todo_text-append names trees before (parts terms t))
+            ∙ (append_assoc out (step_text names t) (todo_text names trees (parts terms t) ++ todo_text names trees before)
             ∙ (ap (λ (bs : List ℕ). out ++ bs)
-            (todo_text-append names trees before (parts terms t)
+            (sym (append_assoc (step_text names t) (todo_text names trees (parts terms t)) (todo_text names trees before))
             ∙ ((λ i. (parts_text names terms store t below ∙ ap (path_text_of names) (sym same)) i ++ todo_text names trees before)
             ∙ sym (todo_text-append names trees before (todo.Path id ∷ []))))
-            ∙ (ap (λ xs. out ++ todo_text names trees xs) (sym is) ∙ w.whole));
+            ∙ (ap (λ xs. out ++ todo_text names trees xs) (sym is) ∙ w.whole))));
         names_are = λ each.
             let both = and_parts (list_all (item_names names trees) before) (list_all (item_names names trees) (parts terms t))
             (sym (list_all-append (item_names names trees) before (parts terms t)) ∙ (ap (list_all (item_names names trees)) (sym now_is) ∙ each)) in
             w.names_are
             (ap (list_all (item_names names trees)) is
             ∙ (list_all-append (item_names names trees) before (todo.Path id ∷ [])
-            ∙ and_true both.0 (and_true (ap (has_names names) same ∙ parts_names names terms store t both.1) refl)));
+            ∙ and_true both.0 (and_true (ap (has_names names) same ∙ parts_names names terms store t step both.1) refl)));
         fit = ap (list_all fits) now_is
             ∙ (list_all-append fits before (parts terms t)
             ∙ and_true (and_parts (list_all fits before) _ (sym (list_all-append fits before (todo.Path id ∷ [])) ∙ (ap (list_all fits) (sym is) ∙ w.fit))).0
-            (parts_fit names terms store t (list_all-get (has_label (length names)) terms id t labelled at) below));
+            (parts_fit names terms store t below));
       }
 
 -- ---- each step of it leaves less to do
@@ -240,8 +233,7 @@ module _ (trees : List Tree) where
 
 module _ (terms : List Term) where
   parts_weight : (t : Term) → todo_weight (trees_of terms) (parts terms t) < tree_weight (tree_of (trees_of terms) t)
-  parts_weight (Step label false) = omega arith
-  parts_weight (Step label true) = omega arith
+  parts_weight (Step label back) = omega arith
   parts_weight (Seq a b) =
       let trees = trees_of terms in
       let one = is_alt_at terms b || is_seq_at terms b in

@@ -2,20 +2,21 @@
 --   is_alt_at, is_seq_at terms id    the term with a number is a choice, or a sequence
 --   nested needed id                 a term, in parentheses where they are needed
 --   signed id sign                   a term in parentheses, with a sign behind them
---   parts terms t                    what the text of a term consists of
+--   step_text names t                the text of a step, and of another term no byte
+--   step_names names t               the label of a step has a name
+--   parts terms t                    what the text of a term that is no step consists of
 --   todo_text names trees todo       the text of the list
---   item_names names trees item      its label has a name, or each label of its path has
---   item_fits labels terms item      its number is that of a label or a term
+--   item_names names trees item      each label of its path has a name
+--   item_fits terms item             its number is that of a term
 --   todo_weight trees todo           how much there is to do
 use Rattle.std.specs.Prelude.{ℕ, ◌+◌, Bool, true, false, ◌||◌, nat_lt, Option, Some, List, [], ◌∷◌, ◌++◌, slice_get}
-use Rattle.gm_text.specs.Name.{is_name}
 use Rattle.path_pairs.specs.Trees.{Tree}
 use Rattle.query_terms.specs.declared.terms.Term.{Term}
 use Rattle.query_terms.specs.declared.terms.Term.TheVariants.{Step, Seq, Alt, Star, Opt}
 use Rattle.query_terms.specs.Trees.{tree_in}
 use Rattle.sparql_emit.specs.declared.paths.Todo.{Todo}
 use Rattle.sparql_emit.specs.declared.paths.Todo.TheVariants as todo
-use Rattle.sparql_emit.specs.PathText.{name_of, path_text_of}
+use Rattle.sparql_emit.specs.PathText.{path_text_of}
 use Rattle.sparql_emit.specs.Laws.{has_names}
 
 abbrev pub is_alt_term : Option Term → Bool
@@ -43,10 +44,24 @@ nested true id = todo.Byte 41 ∷ todo.Path id ∷ todo.Byte 40 ∷ []
 abbrev pub signed : ℕ → ℕ → List Todo
 signed id sign = todo.Byte sign ∷ nested true id
 
--- what the text of a term consists of, from its end
+-- the text of a step, which is written at once
+abbrev pub step_text : List (List ℕ) → Term → List ℕ
+step_text names (Step label back) = path_text_of names (Tree.Step label back)
+step_text names (Seq first second) = []
+step_text names (Alt left right) = []
+step_text names (Star child) = []
+step_text names (Opt child) = []
+
+abbrev pub step_names : List (List ℕ) → Term → Bool
+step_names names (Step label back) = has_names names (Tree.Step label back)
+step_names names (Seq first second) = true
+step_names names (Alt left right) = true
+step_names names (Star child) = true
+step_names names (Opt child) = true
+
+-- what the text of another term consists of, from its end
 abbrev pub parts : List Term → Term → List Todo
-parts terms (Step label false) = todo.Name label ∷ todo.Byte 58 ∷ []
-parts terms (Step label true) = todo.Name label ∷ todo.Byte 58 ∷ todo.Byte 94 ∷ []
+parts terms (Step label back) = []
 parts terms (Seq first second) = nested (is_alt_at terms second || is_seq_at terms second) second ++ (todo.Byte 47 ∷ nested (is_alt_at terms first) first)
 parts terms (Alt left right) = nested (is_alt_at terms right) right ++ (todo.Byte 124 ∷ todo.Path left ∷ [])
 parts terms (Star child) = signed child 42
@@ -54,7 +69,6 @@ parts terms (Opt child) = signed child 63
 
 abbrev pub item_text : List (List ℕ) → List Tree → Todo → List ℕ
 item_text names trees (todo.Byte byte) = byte ∷ []
-item_text names trees (todo.Name label) = name_of names label
 item_text names trees (todo.Path id) = path_text_of names (tree_in trees id)
 
 -- the last is written first
@@ -64,17 +78,15 @@ todo_text names trees (item ∷ items) = todo_text names trees items ++ item_tex
 
 abbrev pub item_names : List (List ℕ) → List Tree → Todo → Bool
 item_names names trees (todo.Byte byte) = true
-item_names names trees (todo.Name label) = is_name (name_of names label)
 item_names names trees (todo.Path id) = has_names names (tree_in trees id)
 
-abbrev pub item_fits : ℕ → ℕ → Todo → Bool
-item_fits labels terms (todo.Byte byte) = true
-item_fits labels terms (todo.Name label) = nat_lt label labels
-item_fits labels terms (todo.Path id) = nat_lt id terms
+abbrev pub item_fits : ℕ → Todo → Bool
+item_fits terms (todo.Byte byte) = true
+item_fits terms (todo.Path id) = nat_lt id terms
 
 -- more than that of what a tree consists of
 abbrev pub tree_weight : Tree → ℕ
-tree_weight (Tree.Step label back) = 4
+tree_weight (Tree.Step label back) = 1
 tree_weight (Tree.Seq first second) = 6 + (tree_weight first + tree_weight second)
 tree_weight (Tree.Alt left right) = 4 + (tree_weight left + tree_weight right)
 tree_weight (Tree.Star child) = 4 + tree_weight child
@@ -82,7 +94,6 @@ tree_weight (Tree.Opt child) = 4 + tree_weight child
 
 abbrev pub item_weight : List Tree → Todo → ℕ
 item_weight trees (todo.Byte byte) = 1
-item_weight trees (todo.Name label) = 1
 item_weight trees (todo.Path id) = tree_weight (tree_in trees id)
 
 -- how much there is to do

@@ -2,11 +2,12 @@
 
 ghost use Rattle.std.specs.Prelude.{◌≡◌, ◌<◌, ◌++◌, true, length, OnOk};
 ghost use Rattle.std.specs.List.{list_all};
+ghost use Rattle.path_pairs.specs.Trees.Tree.{Step};
 ghost use Rattle.query_terms.specs.Store.{ChildrenBelow};
 ghost use Rattle.query_terms.specs.Trees.{tree_at};
 ghost use Rattle.sparql_emit.specs.PathText.{path_text_of};
 ghost use Rattle.sparql_emit.specs.Laws.{has_label, has_names};
-ghost use Rattle.sparql_emit.specs.Todo.{is_alt_at, is_seq_at, nested, signed, parts};
+ghost use Rattle.sparql_emit.specs.Todo.{is_alt_at, is_seq_at, nested, signed, step_text, step_names, parts};
 
 use gm_text::Names;
 use query_terms::{Term, TermId, TermStore};
@@ -17,8 +18,6 @@ use std::alloc::{AllocError, Global};
 enum Todo {
     /// This byte.
     Byte(u8),
-    /// The name of the label with this number.
-    Name(u8),
     /// The text of the term with this number.
     Path(TermId),
 }
@@ -45,26 +44,28 @@ pub fn path_text(
     while let Some(next) = todo.pop() {
         match next {
             Todo::Byte(byte) => out.push(byte)?,
-            Todo::Name(label) => out.extend_from_slice(labels.at(label as usize).as_slice())?,
-            Todo::Path(id) => push_parts(&mut todo, terms, terms.get(id))?,
+            Todo::Path(id) => write_term(out, &mut todo, terms, terms.get(id), labels)?,
         }
     }
     Ok(())
 }
 
-/// Adds what the text of a term consists of.
-fn push_parts(todo: &mut Vec<Todo>, terms: &TermStore<'_>, term: Term) -> Result<(), AllocError>
-    requires { ChildrenBelow (length terms.now) term }
-    ensures { OnOk result (todo.new.items ≡ todo.old.items ++ parts terms.now term) }
+/// Appends the text of a step, or adds what the text of another term consists of.
+fn write_term(
+    out: &mut Vec<u8>,
+    todo: &mut Vec<Todo>,
+    terms: &TermStore<'_>,
+    term: Term,
+    labels: &Names,
+) -> Result<(), AllocError>
+    requires children { ChildrenBelow (length terms.now) term }
+    requires label { has_label (length labels.now) term ≡ true }
+    ensures text { OnOk result (out.new.items ≡ out.old.items ++ step_text labels.now term) }
+    ensures name { OnOk result (step_names labels.now term ≡ true) }
+    ensures parts { OnOk result (todo.new.items ≡ todo.old.items ++ parts terms.now term) }
 {
     match term {
-        Term::Step { label, back } => {
-            todo.push(Todo::Name(label))?;
-            todo.push(Todo::Byte(b':'))?;
-            if back {
-                todo.push(Todo::Byte(b'^'))?;
-            }
-        }
+        Term::Step { label, back } => write_step(out, label, back, labels)?,
         Term::Seq(first, second) => {
             push_nested(todo, is_alt(terms, second) || is_seq(terms, second), second)?;
             todo.push(Todo::Byte(b'/'))?;
@@ -79,6 +80,19 @@ fn push_parts(todo: &mut Vec<Todo>, terms: &TermStore<'_>, term: Term) -> Result
         Term::Opt(child) => push_signed(todo, child, b'?')?,
     }
     Ok(())
+}
+
+/// Appends the text of a step with a label.
+fn write_step(out: &mut Vec<u8>, label: u8, back: bool, labels: &Names) -> Result<(), AllocError>
+    requires { label < length labels.now }
+    ensures text { OnOk result (out.new.items ≡ out.old.items ++ path_text_of labels.now (Step label back)) }
+    ensures name { OnOk result (has_names labels.now (Step label back) ≡ true) }
+{
+    if back {
+        out.push(b'^')?;
+    }
+    out.push(b':')?;
+    out.extend_from_slice(labels.at(label as usize).as_slice())
 }
 
 /// Adds a term in parentheses, with a sign behind them.
