@@ -1,7 +1,6 @@
 -- The sample and its summary.
-use Rattle.std.proofs.Common.{◌≡◌, ◌∙◌, ℕ, ◌+◌, ◌^◌, ◌<◌, ◌≤◌, List, [], ◌∷◌, length, map, All, None, IsSome, refl, ap, sym, inl, inr, arith}
+use Rattle.std.proofs.Common.{◌≡◌, ◌∙◌, ℕ, ◌+◌, ◌^◌, ◌<◌, ◌≤◌, List, [], ◌∷◌, length, map, All, IsSome, refl, ap, sym, arith}
 use Rattle.std.specs.List.{range_with_len}
-use Rattle.std.proofs.lemmas.Bool.{cases_Bool}
 use Rattle.std.proofs.lemmas.List.Elements.{All-weaker}
 use Rattle.std.proofs.lemmas.List.FromFn.{length-map-range_with_len, map-range_with_len_more}
 use Rattle.gm_io.specs.FileList.{FileList}
@@ -9,12 +8,7 @@ use Rattle.graph_text.specs.declared.graphs.Triple.{Triple}
 use Rattle.gm_config.specs.Config.{ConfigValue, IsConfig}
 use Rattle.gm_config.specs.Sample.{sample_of}
 use Rattle.gm_config.proofs.SampleLemmas.{IsConfig-sample_of}
-use Rattle.edge_match.specs.declared.config_sides.Side.TheVariants.{Out, In}
-use Rattle.edge_match.specs.AllEdges.{AreEdgesOf, AreAllEdges}
-use Rattle.edge_match.specs.ConfigSides.{is_free}
-use Rattle.edge_match.specs.Limit.{first_side_over}
-use Rattle.edge_match.specs.StubLimit.{stubs_most}
-use Rattle.edge_match.proofs.SideLemmas.{is_free-opposite, table_total-within, side_total-drawn}
+use Rattle.edge_match.specs.AllEdges.{AreAllEdges}
 use Rattle.edge_match.proofs.AllEdgesLemmas.{IsConforming-AreAllEdges}
 use Rattle.query_terms.specs.Values.{QueryValue}
 use Rattle.query_draw.specs.Query.{query_of}
@@ -22,9 +16,9 @@ use Rattle.workload_text.specs.Values.{IsQuery}
 use Rattle.sample_laws.proofs.LiveLemmas.{sample_has_query}
 use Rattle.sample_laws.proofs.TotalLemmas.{sample-within_limit}
 use Rattle.summary_text.specs.Summary.{HasRoom, class_total, summary_text_of}
-use Rattle.summary_text.specs.Counts.{smaller_total, smaller_totals, drawn_summary}
+use Rattle.summary_text.specs.Counts.{smaller_totals, drawn_summary}
 use Rattle.summary_text.specs.Laws.{with_class_of}
-use Rattle.summary_text.proofs.CountLemmas.{length-AreEdgesOf, constraints-smaller_total, query-counted, HasRoom-summary_with, classes-add_up}
+use Rattle.summary_text.proofs.CountLemmas.{constraints-smaller_total, query-counted, HasRoom-summary_with, classes-add_up}
 use Rattle.gm_top.specs.Generation.{CanDraw, IsAcceptedFor}
 use Rattle.gm_top.specs.Workload.{queries_of, workload_of}
 use Rattle.gm_top.specs.Outputs.{summary, name_of, IsTextOf, AreFilesOf}
