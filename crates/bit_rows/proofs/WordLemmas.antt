@@ -98,11 +98,11 @@ min_test zero (suc (suc y)) p q = absurd (omega (arith, q))
 min_test (suc zero) (suc (suc y)) p q = absurd (omega (arith, q))
 
 -- a bit of `a | b` is set where it is in a or in b
-either_bit : (a b i : ℕ) → (bit_at (bit_or a b) i == 1) ≡ ((bit_at a i == 1) || (bit_at b i == 1))
+pub either_bit : (a b i : ℕ) → (bit_at (bit_or a b) i == 1) ≡ ((bit_at a i == 1) || (bit_at b i == 1))
 either_bit a b i = ap (λ x. x == 1) (bit_at_or a b i) ∙ max_test (bit_at a i) (bit_at b i) (bit_at-lt a i) (bit_at-lt b i)
 
 -- a bit of `a & b` is set where it is in a and in b
-both_bit : (a b i : ℕ) → (bit_at (bit_and a b) i == 1) ≡ ((bit_at a i == 1) && (bit_at b i == 1))
+pub both_bit : (a b i : ℕ) → (bit_at (bit_and a b) i == 1) ≡ ((bit_at a i == 1) && (bit_at b i == 1))
 both_bit a b i = ap (λ x. x == 1) (bit_at_and a b i) ∙ min_test (bit_at a i) (bit_at b i) (bit_at-lt a i) (bit_at-lt b i)
 
 -- a word that is changed changes the bits of its own row alone

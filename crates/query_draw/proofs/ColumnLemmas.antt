@@ -1,12 +1,13 @@
 -- Columns of bits, and the entries that they have.
-use Rattle.std.proofs.Common.{◌≡◌, ◌≢◌, ℕ, zero, suc, ◌+◌, ◌-◌, ◌*◌, ◌/◌, ◌%◌, ◌<◌, ◌≤◌, ◌==◌, ◌^◌, Bool, true, false, not, ◌&&◌, ◌||◌, if◌then◌else◌, Option, Some, None, option_map, List, length, slice_index_or, slice_set, inl, inr, refl, sym, ap, subst, ◌∙◌, arith, min, max}
+use Rattle.std.proofs.Common.{◌≡◌, ◌≢◌, ℕ, zero, suc, ◌+◌, ◌-◌, ◌*◌, ◌/◌, ◌%◌, ◌<◌, ◌≤◌, ◌==◌, ◌^◌, Bool, true, false, not, ◌&&◌, ◌||◌, if◌then◌else◌, Option, Some, None, option_map, List, length, slice_index_or, slice_set, inl, inr, refl, sym, ap, subst, ◌∙◌, arith}
 use Rattle.std.specs.Int.{bit_at, bit_not, w64}
 use Rattle.std.specs.Int.Bits.{or_zero_l}
 use Rattle.std.specs.Int.RustNames.{bit_and, bit_or}
 use Rattle.std.proofs.lemmas.Bool.Decides.{eqb_tells}
 use Rattle.std.proofs.lemmas.List.{ext_get_or, get_or-set_same, get_or-set_other, length-set}
 use Rattle.std.proofs.lemmas.Nat.{div-add-mod'}
-use Rattle.std.proofs.lemmas.Nat.Bits.{bit_at-zero, bit_at-lt, bit_at_set_same, bit_at_set_other, bit_at_or, bit_at_and, bit_at_not}
+use Rattle.std.proofs.lemmas.Nat.Bits.{bit_at-zero, bit_at-lt, bit_at_set_same, bit_at_set_other, bit_at_not}
+use Rattle.bit_rows.proofs.WordLemmas.{either_bit, both_bit}
 use Rattle.sel_algebra.specs.declared.vocabulary.Op.{Op}
 use Rattle.sel_algebra.specs.declared.vocabulary.Op.TheVariants.{Equal, Less, Greater, Diamond, Cross}
 use Rattle.sel_algebra.specs.declared.vocabulary.Kind.{Kind}
@@ -20,24 +21,6 @@ use Rattle.query_draw.specs.Columns.{has, is_growing, is_at_least, Tells, no_col
 
 -- ---- sets
 
-max_test : (x y : ℕ) → x < 2 → y < 2 → (max x y == 1) ≡ ((x == 1) || (y == 1))
-max_test zero zero p q = refl
-max_test zero (suc zero) p q = refl
-max_test (suc zero) zero p q = refl
-max_test (suc zero) (suc zero) p q = refl
-max_test (suc (suc x)) y p q = absurd (omega (arith, p))
-max_test zero (suc (suc y)) p q = absurd (omega (arith, q))
-max_test (suc zero) (suc (suc y)) p q = absurd (omega (arith, q))
-
-min_test : (x y : ℕ) → x < 2 → y < 2 → (min x y == 1) ≡ ((x == 1) && (y == 1))
-min_test zero zero p q = refl
-min_test zero (suc zero) p q = refl
-min_test (suc zero) zero p q = refl
-min_test (suc zero) (suc zero) p q = refl
-min_test (suc (suc x)) y p q = absurd (omega (arith, p))
-min_test zero (suc (suc y)) p q = absurd (omega (arith, q))
-min_test (suc zero) (suc (suc y)) p q = absurd (omega (arith, q))
-
 not_test : (x : ℕ) → x < 2 → (1 - x == 1) ≡ not (x == 1)
 not_test zero p = refl
 not_test (suc zero) p = refl
@@ -45,12 +28,6 @@ not_test (suc (suc x)) p = absurd (omega (arith, p))
 
 has_none : (i : ℕ) → has 0 i ≡ false
 has_none i = rw (bit_at-zero i) refl
-
-has_or : (a b i : ℕ) → has (bit_or a b) i ≡ (has a i || has b i)
-has_or a b i = ap (λ x. x == 1) (bit_at_or a b i) ∙ max_test (bit_at a i) (bit_at b i) (bit_at-lt a i) (bit_at-lt b i)
-
-has_and : (a b i : ℕ) → has (bit_and a b) i ≡ (has a i && has b i)
-has_and a b i = ap (λ x. x == 1) (bit_at_and a b i) ∙ min_test (bit_at a i) (bit_at b i) (bit_at-lt a i) (bit_at-lt b i)
 
 has_not : (a i : ℕ) → a < 2 ^ 64 → i < 64 → has (bit_not w64 a) i ≡ not (has a i)
 has_not a i fits lt = ap (λ x. x == 1) (bit_at_not w64 a i fits lt) ∙ not_test (bit_at a i) (bit_at-lt a i)
@@ -110,10 +87,10 @@ least_joined Cross (Some a) (Some b) other = grind (arith)
 
 pub Tells-joined : (a b : Column) (i : ℕ) (x y : Option Op) → Tells a i x → Tells b i y → Tells (joined_column a b) i (joined x y)
 Tells-joined a b i x y p q = record {
-  there = has_or a.there b.there i ∙ ((λ k. p.there k || q.there k) ∙ least_joined Equal x y (λ e. cc));
-  less = has_or a.less b.less i ∙ ((λ k. p.less k || q.less k) ∙ least_joined Less x y (λ e. cc));
-  greater = has_or a.greater b.greater i ∙ ((λ k. p.greater k || q.greater k) ∙ least_joined Greater x y (λ e. cc));
-  cross = has_or a.cross b.cross i ∙ ((λ k. p.cross k || q.cross k) ∙ least_joined Cross x y (λ e. cc));
+  there = either_bit a.there b.there i ∙ ((λ k. p.there k || q.there k) ∙ least_joined Equal x y (λ e. cc));
+  less = either_bit a.less b.less i ∙ ((λ k. p.less k || q.less k) ∙ least_joined Less x y (λ e. cc));
+  greater = either_bit a.greater b.greater i ∙ ((λ k. p.greater k || q.greater k) ∙ least_joined Greater x y (λ e. cc));
+  cross = either_bit a.cross b.cross i ∙ ((λ k. p.cross k || q.cross k) ∙ least_joined Cross x y (λ e. cc));
 }
 
 -- an entry and then an operator, and the normal form of an entry
@@ -151,7 +128,7 @@ Tells-normal c growing Fixed i x from fits lt grows t =
     record {
       there = t.there ∙ there;
       less = has_none i ∙ less;
-      greater = has_and c.there growing i ∙ ((λ k. t.there k && grows k) ∙ greater);
+      greater = both_bit c.there growing i ∙ ((λ k. t.there k && grows k) ∙ greater);
       cross = has_none i ∙ cross;
     }
 Tells-normal c growing Growing i x from fits lt grows t =
@@ -160,10 +137,10 @@ Tells-normal c growing Growing i x from fits lt grows t =
     record {
       there = t.there ∙ there;
       less =
-          has_or (bit_and c.less growing) (bit_and c.there (bit_not w64 growing)) i
-          ∙ ((λ k. has_and c.less growing i k || has_and c.there (bit_not w64 growing) i k) ∙ ((λ k. (t.less k && grows k) || (t.there k && fixed k)) ∙ less));
-      greater = has_and c.greater growing i ∙ ((λ k. t.greater k && grows k) ∙ greater);
-      cross = has_and c.cross growing i ∙ ((λ k. t.cross k && grows k) ∙ cross);
+          either_bit (bit_and c.less growing) (bit_and c.there (bit_not w64 growing)) i
+          ∙ ((λ k. both_bit c.less growing i k || both_bit c.there (bit_not w64 growing) i k) ∙ ((λ k. (t.less k && grows k) || (t.there k && fixed k)) ∙ less));
+      greater = both_bit c.greater growing i ∙ ((λ k. t.greater k && grows k) ∙ greater);
+      cross = both_bit c.cross growing i ∙ ((λ k. t.cross k && grows k) ∙ cross);
     }
 
 composed_is : (x : Option Op) (op : Op) (from to : Kind) → normal_entry (followed x op) from to ≡ composed x (Some op) from to

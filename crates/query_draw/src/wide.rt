@@ -2,7 +2,6 @@
 
 ghost use Rattle.std.specs.Prelude.{◌≡◌, ◌≤◌, true, length, take, IfOk, OnOk};
 ghost use Rattle.std.specs.List.{list_all};
-ghost use Rattle.sel_algebra.specs.Entries.{greater_class};
 ghost use Rattle.sel_algebra.specs.Table.{IsMatrix};
 ghost use Rattle.skeletons.specs.Skeleton.{spine_of};
 ghost use Rattle.query_terms.specs.Values.{is_word, is_conjunct, is_rule};
@@ -17,7 +16,7 @@ use crate::columns::{clear, join_all, matrix_of};
 use gm_text::Span;
 use query_terms::{Conjunct, Query, Rule};
 use schema_graph::Schema;
-use sel_algebra::{Class, Matrix, Shape};
+use sel_algebra::{Class, Matrix, Shape, greater_class};
 use std::alloc::{AllocError, Global};
 
 /// The wide class of a query over a schema, whose edges its symbols name.
@@ -133,17 +132,6 @@ fn union_matrix(
         join_all(work.union.as_mut_slice(), work.word.as_slice());
     }
     matrix_of(alloc, schema.kinds(), work.union.as_slice())
-}
-
-/// The greater of two classes, `None` being below all.
-fn greater_class(first: Option<Class>, second: Option<Class>) -> Option<Class>
-    ensures { result ≡ greater_class first second }
-{
-    match (first, second) {
-        (Some(first), Some(second)) => Some(if first <= second { second } else { first }),
-        (None, second) => second,
-        (first, None) => first,
-    }
 }
 
 /// The first items of a list.

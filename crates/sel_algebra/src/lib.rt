@@ -11,7 +11,7 @@ mod matrix;
 mod operators;
 mod vocabulary;
 
-pub use matrix::Matrix;
+pub use matrix::{Matrix, greater_class};
 pub use operators::{class_of, compose, join, mirror, normal, star};
 pub use vocabulary::{Class, Kind, Op, Shape, Symbol};
 

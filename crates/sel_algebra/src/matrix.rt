@@ -359,7 +359,7 @@ fn class_of_entry(entry: Option<Op>, from: Kind, to: Kind) -> Option<Class>
 }
 
 /// The greater of two classes, `None` being below all.
-fn greater_class(first: Option<Class>, second: Option<Class>) -> Option<Class>
+pub fn greater_class(first: Option<Class>, second: Option<Class>) -> Option<Class>
     ensures { result ≡ greater_class first second }
 {
     match (first, second) {
