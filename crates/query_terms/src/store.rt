@@ -30,14 +30,14 @@ pub(crate) enum Terms<'a> {
 impl<'a> Model for TermStore<'a> {
     ghost use Rattle.std.specs.Prelude.{List};
     ghost use Rattle.query_terms.specs.declared.terms.Term.{Term};
-    ghost use Rattle.query_terms.specs.Store.{IsFull};
+    ghost use Rattle.query_terms.specs.Store.{IsNumbered};
     ghost use Rattle.query_terms.specs.Kept.{terms_in};
 
     ghost Value = { List Term };
 
     ghost view = { λ store. terms_in store.terms };
 
-    ghost invariant = { λ store. IsFull (terms_in store.terms) };
+    ghost invariant = { λ store. IsNumbered (terms_in store.terms) };
 }
 
 impl<'a> TermStore<'a> {
