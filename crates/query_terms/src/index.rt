@@ -2,7 +2,7 @@
 
 ghost use Rattle.std.specs.Prelude.{◌≡◌, ◌≢◌, ◌≤◌, ◌<◌, ◌+◌, ℕ, [], length, slice_get, true, false, None, Some, IfSome, IfNone, IfOk, OnErr};
 ghost use Rattle.std.specs.Map.{lookup};
-ghost use Rattle.query_terms.specs.Store.{terms_most, is_term, number_of, ChildrenBelow, IsStore, IsNumbered, put_of};
+ghost use Rattle.query_terms.specs.Store.{terms_most, is_term, number_of, ChildrenBelow, IsNumbered, put_of};
 ghost use Rattle.query_terms.specs.Index.{goes_on, IsIndexed};
 
 use crate::terms::{Term, TermId};
@@ -122,16 +122,4 @@ fn found_next(terms: &[Term], term: &Term) -> Option<u32>
         return None;
     }
     Some(next)
-}
-
-/// The terms of a store, each of which is found again.
-pub(crate) fn indexed(alloc: Global, terms: &[Term]) -> Result<TermIndex, AllocError>
-    requires { IsNumbered terms.now }
-    ensures { IfOk result (λ index. index ≡ terms.now) }
-{
-    let mut index = TermIndex::new(alloc);
-    for term in terms {
-        index.put(*term)?;
-    }
-    Ok(index)
 }
