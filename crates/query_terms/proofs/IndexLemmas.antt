@@ -9,7 +9,7 @@ use Rattle.query_terms.specs.declared.terms.Term.{Term}
 use Rattle.query_terms.specs.declared.terms.Term.TheVariants.{Step, Seq, Alt, Star, Opt}
 use Rattle.query_terms.specs.Store.{ChildrenBelow, IsStore, is_term, number_of, put_of, terms_most}
 use Rattle.query_terms.specs.Index.{goes_on, IsIndexed}
-use Rattle.query_terms.proofs.StoreLemmas.{same_test, term_is, is_term-self, put_is_new, push_cases, push_keeps, last_there, full_push, is_new, front_new}
+use Rattle.query_terms.proofs.StoreLemmas.{same_test, term_is, is_term-self, put_is_new, push_cases, push_keeps, last_there, numbered_push, is_new, front_new}
 
 none_some : {m : ℕ} → None ≡ Some m → ⊥
 none_some h = true≢false (sym (ap is_some h))
@@ -64,7 +64,7 @@ unknown_is_new terms entries term is nowhere none = is_new terms term (λ n at. 
 pub indexed_next : (terms : List Term) (entries : List (Term × ℕ)) (term : Term) → IsIndexed terms entries → ChildrenBelow (length terms) term → length terms < terms_most
     → goes_on term (length terms) ≡ true → IsIndexed (terms ++ term ∷ []) entries
 indexed_next terms entries term is below room next = record {
-  full = full_push terms term is.full below room (next_is_new terms term is.full.store next);
+  numbered = numbered_push terms term is.numbered below room (next_is_new terms term is.numbered.store next);
   right = λ x n at. push_keeps terms term n x (is.right x n at);
   whole = λ n x at other. elim (push_cases terms term n x at) [
     | inl earlier ↦ is.whole n x earlier other
@@ -76,7 +76,7 @@ indexed_next terms entries term is below room next = record {
 pub indexed_push : (terms : List Term) (entries : List (Term × ℕ)) (term : Term) → IsIndexed terms entries → ChildrenBelow (length terms) term → length terms < terms_most
     → length terms ≤ number_of terms term → lookup (is_term term) entries ≡ None → IsIndexed (terms ++ term ∷ []) (entries ++ (term, length terms) ∷ [])
 indexed_push terms entries term is below room most none = record {
-  full = full_push terms term is.full below room most;
+  numbered = numbered_push terms term is.numbered below room most;
   right = λ x n at. elim (cases_Bool (is_term x term)) [
     | inl same ↦ right-same x n same at
     | inr other ↦ push_keeps terms term n x (is.right x n (sym (push-miss (is_term x) entries term (length terms) other) ∙ at))

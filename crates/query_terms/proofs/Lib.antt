@@ -1,5 +1,6 @@
 pub mod StoreLemmas
 pub mod IndexLemmas
+pub mod ListedLemmas
 pub mod SpanLemmas
 pub mod WordLemmas
 pub mod LayoutLemmas

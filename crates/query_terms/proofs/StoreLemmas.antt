@@ -6,7 +6,7 @@ use Rattle.std.proofs.lemmas.Option.{slice_get_within, slice_get-get_or, get_or_
 use Rattle.std.proofs.lemmas.List.Quantifiers.{all_pairs_push}
 use Rattle.query_terms.specs.contracts.terms.TermPartialEq.TheImpl.{eq-value}
 use Rattle.query_terms.specs.declared.terms.Term.{Term}
-use Rattle.query_terms.specs.Store.{ChildrenBelow, IsStore, IsFull, is_term, number_of, put_of, terms_most}
+use Rattle.query_terms.specs.Store.{ChildrenBelow, IsStore, IsNumbered, is_term, number_of, put_of, terms_most}
 
 -- the test of the code is that of the definition
 pub same_test : (a b : Term) → eq-value.it a b ≡ is_term a b
@@ -114,8 +114,8 @@ put_found terms term n is at =
     put_is_there terms term (subst (λ k. k < length terms) (sym same) within) ∙ ap (λ k. record { terms = terms; number = k }) same
 
 -- a store with a new term stays one that can number its terms
-pub full_push : (terms : List Term) (term : Term) → IsFull terms → ChildrenBelow (length terms) term → length terms < terms_most → length terms ≤ number_of terms term → IsFull (terms ++ term ∷ [])
-full_push terms term is below room most = record {
+pub numbered_push : (terms : List Term) (term : Term) → IsNumbered terms → ChildrenBelow (length terms) term → length terms < terms_most → length terms ≤ number_of terms term → IsNumbered (terms ++ term ∷ [])
+numbered_push terms term is below room most = record {
   store = store_push terms term is.store below most;
   few = rw (length-append terms (term ∷ [])) (omega (arith, room));
 }

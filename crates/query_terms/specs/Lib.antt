@@ -1,6 +1,7 @@
 pub mod Values
 pub mod Store
 pub mod Index
+pub mod Listed
 pub mod Kept
 pub mod Numbering
 pub mod Trees

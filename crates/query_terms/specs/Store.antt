@@ -5,7 +5,7 @@
 --   is_term term other      the terms are the same
 --   number_of terms term    the place of a term, or the number of the terms where it isn't there
 --   Placed, put_of          a list of terms with the number of one of them, as putting it gives them
---   IsFull terms            a store of no more terms than can be numbered
+--   IsNumbered terms        a store of no more terms than can be numbered
 use Rattle.std.specs.Prelude.{◌≡◌, ◌≢◌, ℕ, suc, ◌-◌, ◌^◌, ◌<◌, ◌≤◌, Bool, true, false, not, ◌==◌, ◌&&◌, if◌then◌else◌, nat_lt, List, [], ◌∷◌, ◌++◌, length, slice_get, Some, ⊤, AllPairs}
 use Rattle.query_terms.specs.declared.terms.Term.{Term}
 use Rattle.query_terms.specs.declared.terms.Term.TheVariants.{Step, Seq, Alt, Star, Opt}
@@ -59,6 +59,6 @@ put_of terms term = record {
 }
 
 -- the terms of a store that can number them
-pub record IsFull (terms : List Term) : Type 0 where
+pub record IsNumbered (terms : List Term) : Type 0 where
   pub store : IsStore terms
   pub few : length terms ≤ terms_most

@@ -2,7 +2,7 @@
 
 ghost use Rattle.std.specs.Prelude.{◌≡◌, ◌≢◌, ◌≤◌, ◌<◌, ◌+◌, ℕ, [], length, slice_get, true, false, None, Some, IfSome, IfNone, IfOk, OnErr};
 ghost use Rattle.std.specs.Map.{lookup};
-ghost use Rattle.query_terms.specs.Store.{terms_most, is_term, number_of, ChildrenBelow, IsStore, IsFull, put_of};
+ghost use Rattle.query_terms.specs.Store.{terms_most, is_term, number_of, ChildrenBelow, IsNumbered, put_of};
 ghost use Rattle.query_terms.specs.Index.{goes_on, IsIndexed};
 
 use crate::terms::{Term, TermId};
@@ -56,7 +56,7 @@ impl TermIndex {
         ensures inside { IfOk result (λ id. slice_get self.new id ≡ Some term) }
         ensures grows { length self.old ≤ length self.new }
         ensures few { length self.new ≤ length self.old + 1 }
-        ensures full { IsFull self.new }
+        ensures numbered { IsNumbered self.new }
         ensures refused { OnErr result (self.new ≡ self.old) }
     {
         let count = self.terms.as_slice().len() as u32;
@@ -122,16 +122,4 @@ fn found_next(terms: &[Term], term: &Term) -> Option<u32>
         return None;
     }
     Some(next)
-}
-
-/// The terms of a store, each of which is found again.
-pub(crate) fn indexed(alloc: Global, terms: &[Term]) -> Result<TermIndex, AllocError>
-    requires { IsFull terms.now }
-    ensures { IfOk result (λ index. index ≡ terms.now) }
-{
-    let mut index = TermIndex::new(alloc);
-    for term in terms {
-        index.put(*term)?;
-    }
-    Ok(index)
 }

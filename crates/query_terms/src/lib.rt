@@ -9,6 +9,7 @@ mod building;
 mod index;
 pub mod laws;
 mod layout;
+mod listed;
 mod query;
 mod steps;
 mod store;

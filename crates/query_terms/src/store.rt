@@ -1,10 +1,11 @@
 //! A list of terms, each of which is there once.
 
 ghost use Rattle.std.specs.Prelude.{◌≡◌, ◌≤◌, ◌<◌, ◌+◌, length, slice_get, [], Some, IfOk, OnErr};
-ghost use Rattle.query_terms.specs.Store.{terms_most, ChildrenBelow, IsStore, put_of};
+ghost use Rattle.query_terms.specs.Store.{terms_most, ChildrenBelow, IsStore, IsNumbered, put_of};
 ghost use Rattle.query_terms.specs.Kept.{terms_in};
 
-use crate::index::{TermIndex, indexed};
+use crate::index::TermIndex;
+use crate::listed::Listed;
 use crate::terms::{Term, TermId};
 use gm_text::Arena;
 use std::alloc::{AllocError, Global};
@@ -23,21 +24,23 @@ pub struct TermStore<'a> {
 pub(crate) enum Terms<'a> {
     /// With an index that finds each of them.
     Indexed(TermIndex),
-    /// Alone, in the arena.
-    Listed(&'a [Term]),
+    /// Alone, in a small list.
+    Listed(Listed<'a>),
+    /// Alone, where a small list has no room for them.
+    Plain(&'a [Term]),
 }
 
 impl<'a> Model for TermStore<'a> {
     ghost use Rattle.std.specs.Prelude.{List};
     ghost use Rattle.query_terms.specs.declared.terms.Term.{Term};
-    ghost use Rattle.query_terms.specs.Store.{IsFull};
+    ghost use Rattle.query_terms.specs.Store.{IsNumbered};
     ghost use Rattle.query_terms.specs.Kept.{terms_in};
 
     ghost Value = { List Term };
 
     ghost view = { λ store. terms_in store.terms };
 
-    ghost invariant = { λ store. IsFull (terms_in store.terms) };
+    ghost invariant = { λ store. IsNumbered (terms_in store.terms) };
 }
 
 impl<'a> TermStore<'a> {
@@ -62,15 +65,13 @@ impl<'a> TermStore<'a> {
         ensures few { length self.new ≤ length self.old + 1 }
         ensures refused { OnErr result (self.new ≡ self.old) }
     {
-        match &mut self.terms {
-            Terms::Indexed(index) => index.put(term),
-            Terms::Listed(terms) => {
-                let mut index = indexed(self.alloc, *terms)?;
-                let id = index.put(term)?;
-                self.terms = Terms::Indexed(index);
-                Ok(id)
-            }
+        if let Terms::Indexed(index) = &mut self.terms {
+            return index.put(term);
         }
+        let mut index = indexed(self.alloc, &self.terms)?;
+        let id = index.put(term)?;
+        self.terms = Terms::Indexed(index);
+        Ok(id)
     }
 
     /// The term with a number.
@@ -78,7 +79,7 @@ impl<'a> TermStore<'a> {
         requires { id < length self.now }
         ensures { slice_get self.now id ≡ Some result }
     {
-        self.terms.as_slice()[id.number() as usize]
+        self.terms.get(id.number())
     }
 
     /// The number of terms.
@@ -86,7 +87,7 @@ impl<'a> TermStore<'a> {
         ensures count { result ≡ length self.now }
         ensures store { IsStore self.now }
     {
-        self.terms.as_slice().len() as u32
+        self.terms.len() as u32
     }
 
     /// The term with this number.
@@ -97,27 +98,71 @@ impl<'a> TermStore<'a> {
         TermId::of(n)
     }
 
-    /// The same terms, listed in the arena: they take no more memory than a list needs.
+    /// The same terms, without what finds them, in the arena.
     pub(crate) fn into_listed(self) -> Result<TermStore<'a>, AllocError>
         ensures { IfOk result (λ store. store ≡ self.entry) }
     {
-        let terms = self.arena.try_alloc_slice_copy(self.terms.as_slice())?;
+        let TermStore {
+            alloc,
+            arena,
+            terms,
+        } = self;
+        let terms = match terms {
+            Terms::Indexed(index) => listed(alloc, arena, index.as_slice())?,
+            terms => terms,
+        };
         Ok(TermStore {
-            alloc: self.alloc,
-            arena: self.arena,
-            terms: Terms::Listed(terms),
+            alloc,
+            arena,
+            terms,
         })
     }
 }
 
 impl<'a> Terms<'a> {
-    /// All terms.
-    fn as_slice(&self) -> &[Term]
-        ensures { result.now ≡ terms_in self.now }
+    /// The number of terms.
+    fn len(&self) -> usize
+        ensures { result ≡ length (terms_in self.now) }
     {
         match self {
-            Terms::Indexed(index) => index.as_slice(),
-            Terms::Listed(terms) => terms,
+            Terms::Indexed(index) => index.as_slice().len(),
+            Terms::Listed(terms) => terms.len(),
+            Terms::Plain(terms) => terms.len(),
         }
     }
+
+    /// The term with a number.
+    fn get(&self, n: u32) -> Term
+        requires { n < length (terms_in self.now) }
+        ensures { slice_get (terms_in self.now) n ≡ Some result }
+    {
+        match self {
+            Terms::Indexed(index) => index.as_slice()[n as usize],
+            Terms::Listed(terms) => terms.get(n),
+            Terms::Plain(terms) => terms[n as usize],
+        }
+    }
+}
+
+/// The terms in the arena, in a small list where it has room for them.
+fn listed<'a>(alloc: Global, arena: &'a Arena, terms: &[Term]) -> Result<Terms<'a>, AllocError>
+    requires { IsNumbered terms.now }
+    ensures { IfOk result (λ list. terms_in list ≡ terms.now) }
+{
+    if let Some(list) = Listed::of(alloc, arena, terms)? {
+        return Ok(Terms::Listed(list));
+    }
+    Ok(Terms::Plain(arena.try_alloc_slice_copy(terms)?))
+}
+
+/// The terms, each of which is found again.
+fn indexed(alloc: Global, terms: &Terms<'_>) -> Result<TermIndex, AllocError>
+    requires { IsNumbered (terms_in terms.now) }
+    ensures { IfOk result (λ index. index ≡ terms_in terms.now) }
+{
+    let mut index = TermIndex::new(alloc);
+    for n in 0..terms.len() as u32 {
+        index.put(terms.get(n))?;
+    }
+    Ok(index)
 }

@@ -14,13 +14,14 @@ use std::marker::Model;
 /// Words, and the symbols of one that is begun.
 #[derive(Drop)]
 pub(crate) struct WordTable<'a> {
+    alloc: Global,
     arena: &'a Arena,
     /// The symbols of the different words, and then those of the word that is begun.
     symbols: Vec<Symbol>,
     /// The place of each word among the symbols.
     spans: Vec<Span>,
     /// Each different word with its place.
-    index: IndexMap<&'a [Symbol], Span>,
+    index: IndexMap<Vec<Symbol>, Span>,
     /// How many symbols are those of ended words.
     ended: u32,
     /// How many symbols there were.
@@ -35,7 +36,7 @@ impl<'a> Model for WordTable<'a> {
 
     ghost view = { λ t. words_value t.symbols.items t.spans.items t.ended t.taken };
 
-    ghost invariant = { λ t. AreKept t.symbols.items t.spans.items (map (λ e. (e.0.now, e.1)) t.index.entries) t.ended t.taken };
+    ghost invariant = { λ t. AreKept t.symbols.items t.spans.items (map (λ e. (e.0.items, e.1)) t.index.entries) t.ended t.taken };
 }
 
 impl<'a> WordTable<'a> {
@@ -44,6 +45,7 @@ impl<'a> WordTable<'a> {
         ensures { result ≡ record { ended = []; begun = []; taken = 0 } }
     {
         WordTable {
+            alloc,
             arena,
             symbols: Vec::new(alloc),
             spans: Vec::new(alloc),
@@ -85,11 +87,11 @@ impl<'a> WordTable<'a> {
             self.symbols.truncate(ended);
             return Ok(());
         }
-        let kept = copy_in(self.arena, word)?;
         let span = Span {
             first: self.ended,
-            count: kept.len() as u32,
+            count: word.len() as u32,
         };
+        let kept = copy_out(self.alloc, word)?;
         self.spans.reserve(1)?;
         self.index.insert(kept, span)?;
         self.ended += span.count;
@@ -124,4 +126,11 @@ fn copy_in<'a, T: Copy>(arena: &'a Arena, items: &[T]) -> Result<&'a [T], AllocE
     ensures { IfOk result (λ copy. copy.now ≡ items.now) }
 {
     Ok(arena.try_alloc_slice_copy(items)?)
+}
+
+/// The same symbols, outside the arena.
+fn copy_out(alloc: Global, symbols: &[Symbol]) -> Result<Vec<Symbol>, AllocError>
+    ensures { IfOk result (λ copy. copy.items ≡ symbols.now) }
+{
+    symbols.to_vec(alloc)
 }
