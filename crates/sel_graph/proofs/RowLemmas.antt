@@ -2,15 +2,15 @@
 use Rattle.std.proofs.Common.{◌≡◌, ◌↔◌, ℕ, zero, suc, ◌+◌, ◌-◌, ◌<◌, ◌≤◌, ◌==◌, nat_lt, Bool, true, false, ◌&&◌, ◌||◌, List, [], ◌∷◌, ◌++◌, length, get_or, replicate, slice_set, inl, inr, refl, sym, ap, subst, ◌∙◌, length-append, append_assoc, arith}
 use Rattle.std.specs.FinSet as set
 use Rattle.std.specs.List.{list_any, All}
-use Rattle.std.proofs.lemmas.Bool.{cases_eq, cases_lt, eqb-true, eq-eqb, ne_eqb, lt-ltb, le-ltb}
+use Rattle.std.proofs.lemmas.Bool.{cases_eq, cases_lt, eqb-true, eq-eqb, ne_eqb, lt-ltb, le-ltb, true≢false}
 use Rattle.std.proofs.lemmas.List.Folds.{list_any-append}
 use Rattle.std.proofs.lemmas.List.Elements.{All-contains, Contains-append_right}
-use Rattle.std.proofs.lemmas.List.{length-replicate, length-set, get_or_append_left, append-nil}
+use Rattle.std.proofs.lemmas.List.{length-replicate, length-set, get_or_append_left, get_or_past, append-nil}
 use Rattle.std.proofs.Math.Seq.{get_or-append_seam}
 use Rattle.std.proofs.Math.Bool.{or_assoc, or-false}
 use Rattle.bit_rows.specs.Sets.{NumberSet, has, set_at, numbers_from}
 use Rattle.bit_rows.proofs.SetLemmas.{has-empty, has-insert, numbers_in, set_at-same, set_at-other}
-use Rattle.sel_graph.specs.Rows.{HasRows, Leads, StepsBy, level_at, HasLevels}
+use Rattle.sel_graph.specs.Rows.{HasRows, Leads, StepsBy, Back, level_at, HasLevels}
 
 -- two tests that are true for one another are one
 pub same_truth : (a b : Bool) → (a ≡ true) ↔ (b ≡ true) → a ≡ b
@@ -52,18 +52,48 @@ Leads-same k same stays (suc n) p q inside = (
   λ (m, step, rest). (m, (same p m inside).1 step, (Leads-same k same stays n m q (stays p m inside step)).1 rest),
 )
 
-pub HasLevels-same : {S : ℕ → ℕ → Type 0} (count k : ℕ) (steps : List NumberSet) (levels : List (List NumberSet)) → HasRows k S steps → ((p q : ℕ) → p < k → S p q → q < k)
-    → HasLevels count k (StepsBy steps) levels → HasLevels count k S levels
-HasLevels-same count k steps levels rows stays l = record {
+pub HasLevels-same : {R S : ℕ → ℕ → Type 0} (count k : ℕ) (levels : List (List NumberSet)) → ((p q : ℕ) → p < k → R p q ↔ S p q) → ((p q : ℕ) → p < k → S p q → q < k)
+    → HasLevels count k R levels → HasLevels count k S levels
+HasLevels-same count k levels agree stays l = record {
   long = l.long;
   each = λ n below. record {
     long = (l.each n below).long;
     marked = λ p q inside.
         let here = (l.each n below).marked p q inside in
-        let same = Leads-same k (λ a b within. rows.marked a b within) stays n p q inside in
+        let same = Leads-same k agree stays n p q inside in
         (λ h. same.0 (here.0 h), λ h. here.1 (same.1 h));
   };
 }
+
+-- ---- steps the other way
+
+-- one more step at the end
+Leads-end : (S : ℕ → ℕ → Type 0) (n p m q : ℕ) → Leads S n p m → S m q → Leads S (suc n) p q
+Leads-end S zero p m q same step = (q, subst (λ x. S x q) (sym same) step, refl)
+Leads-end S (suc n) p m q (a, first, rest) step = (a, first, Leads-end S n a m q rest step)
+
+-- so many steps the other way lead from q to p just where so many lead from p to q
+pub Leads-back : (S : ℕ → ℕ → Type 0) (n p q : ℕ) → Leads (Back S) n q p ↔ Leads S n p q
+Leads-back S zero p q = (λ same. sym same, λ same. sym same)
+Leads-back S (suc n) p q = (
+  λ (m, step, rest). Leads-end S n p m q ((Leads-back S n p m).0 rest) step,
+  λ (m, step, rest). Leads-end (Back S) n q m p ((Leads-back S n m q).1 rest) step,
+)
+
+-- no row past the last has a number
+set_at-past : (rows : List NumberSet) (p q : ℕ) → length rows ≤ p → has (set_at rows p) q ≡ false
+set_at-past rows p q past = rw (get_or_past rows p set.empty past) (has-empty q)
+
+-- a step by rows starts at one of them
+pub StepsBy-starts : (rows : List NumberSet) (p q : ℕ) → StepsBy rows p q → p < length rows
+StepsBy-starts rows p q step = elim (cases_lt p (length rows)) [ inl below ↦ below | inr past ↦ absurd (true≢false (sym step ∙ set_at-past rows p q past)) ]
+
+-- rows say where steps come from, if each step starts at one of their places
+pub steps_back : {S : ℕ → ℕ → Type 0} (k : ℕ) (rows : List NumberSet) → HasRows k S rows → ((p q : ℕ) → S p q → p < k) → (q p : ℕ) → Back (StepsBy rows) q p ↔ Back S q p
+steps_back k rows r starts q p = (
+  λ step. (r.marked p q (rw (sym r.long) (StepsBy-starts rows p q step))).0 step,
+  λ step. (r.marked p q (starts p q step)).1 step,
+)
 
 -- ---- levels that are added one after another
 
@@ -156,6 +186,18 @@ one_place_more f i p = elim (cases_eq p i) [
     nothing_more true c = refl
     nothing_more false true = refl
     nothing_more false false = refl
+
+-- one row more of those that have a number
+pub row_with-more : (rows : List NumberSet) (s : NumberSet) (q i p : ℕ) → has s p ≡ (nat_lt p i && has (set_at rows p) q)
+    → (has s p || (has (set_at rows i) q && (i == p))) ≡ (nat_lt p (i + 1) && has (set_at rows p) q)
+row_with-more rows s q i p before = rw before (one_place_more (λ x. has (set_at rows x) q) i p)
+
+-- all rows that have a number
+pub rows_with-all : (rows : List NumberSet) (q p : ℕ) → (nat_lt p (length rows) && has (set_at rows p) q) ≡ has (set_at rows p) q
+rows_with-all rows q p = elim (cases_lt p (length rows)) [
+  | inl below ↦ rw (lt-ltb p (length rows) below) refl
+  | inr past ↦ rw (le-ltb p (length rows) past, set_at-past rows p q past) refl
+]
 
 -- an item of a list doesn't rest on what stands past its end
 pub same_default : (xs : List (List NumberSet)) (i : ℕ) (d e : List NumberSet) → i < length xs → get_or xs i d ≡ get_or xs i e

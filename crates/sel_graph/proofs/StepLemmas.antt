@@ -28,7 +28,7 @@ use Rattle.sel_graph.specs.Steps.{symbol_place, symbol_steps, SymbolStep, move_p
 use Rattle.sel_graph.specs.Tests.{leads_at, is_plain, is_move}
 use Rattle.sel_graph.proofs.PlaceLemmas.{op_number-below, op_at-number, place-at, place-op_at, place-below, place-parts}
 use Rattle.sel_graph.proofs.SymbolLemmas.{first_symbols-edge, first_symbols-contain}
-use Rattle.sel_graph.proofs.WalkLemmas.{end_of-below}
+use Rattle.sel_graph.proofs.WalkLemmas.{start_of-below, end_of-below}
 use Rattle.sel_graph.proofs.MoveLemmas.{plain_agrees, move_agrees, move_inside, move_of-place, star_case, same_move}
 
 -- ---- letters that carry states as steps carry their places
@@ -68,19 +68,26 @@ IsOfKind g kind s = (s.at < length g.kinds) × (kind_at g.kinds s.start ≡ kind
 symbol_lands : (g : SchemaValue) (kind : Kind) (s : State) (c : Symbol) → kind_at g.kinds s.start ≡ kind → place (carried g s c) ≡ symbol_place g kind (place s) c
 symbol_lands g kind s c same = λ i. place_of (end_of g.edges c) (typed_composition (sym (place-op_at s) i) (op_of g.edges c) (same i) (kind_at g.kinds (end_of g.edges c)))
 
-pub symbols_simulate : (g : SchemaValue) → IsSchema g → (kind : Kind) → Simulates (CarriesBySymbol g) (IsOfKind g kind) place (SymbolStep g kind)
-symbols_simulate g is kind = record {
+-- a state whose start is of a kind
+abbrev pub StartsOfKind : SchemaValue → Kind → State → Type 0
+StartsOfKind g kind s = kind_at g.kinds s.start ≡ kind
+
+pub symbols_simulate : (g : SchemaValue) (kind : Kind) → Simulates (CarriesBySymbol g) (StartsOfKind g kind) place (SymbolStep g kind)
+symbols_simulate g kind = record {
   forth = λ s c u in_s carries. (
-    (rw (ap (λ x. x.at) (sym carries.2)) (end_of-below g is c carries.0), ap (λ x. kind_at g.kinds x.start) (sym carries.2) ∙ in_s.1),
-    (c, carries.0, carries.1 ∙ sym (place-at s), sym (symbol_lands g kind s c in_s.1) ∙ ap place carries.2),
+    ap (λ x. kind_at g.kinds x.start) (sym carries.2) ∙ in_s,
+    (c, carries.0, carries.1 ∙ sym (place-at s), sym (symbol_lands g kind s c in_s) ∙ ap place carries.2),
   );
-  back = λ s m in_s (c, known, starts, lands).
-      (c, carried g s c, (known, starts ∙ place-at s, refl), symbol_lands g kind s c in_s.1 ∙ lands, (end_of-below g is c known, in_s.1));
+  back = λ s m in_s (c, known, starts, lands). (c, carried g s c, (known, starts ∙ place-at s, refl), symbol_lands g kind s c in_s ∙ lands, in_s);
 }
 
 -- symbols carry places to places
 pub symbol_stays : (g : SchemaValue) → IsSchema g → (kind : Kind) (p q : ℕ) → SymbolStep g kind p q → q < 5 * length g.kinds
 symbol_stays g is kind p q (c, known, starts, lands) = rw (← lands) (place-below (length g.kinds) (end_of g.edges c) _ (end_of-below g is c known))
+
+-- and start at types of the schema
+pub symbol_starts : (g : SchemaValue) → IsSchema g → (kind : Kind) (p q : ℕ) → SymbolStep g kind p q → p < 5 * length g.kinds
+symbol_starts g is kind p q (c, known, starts, lands) = omega (arith, start_of-below g is c known, starts)
 
 -- the test on all symbols is true just where one of them carries a place to a place
 pub symbol_tested : (g : SchemaValue) (kind : Kind) (p q : ℕ) → (list_any (symbol_steps g kind p q) (first_symbols (length g.edges)) ≡ true) ↔ SymbolStep g kind p q

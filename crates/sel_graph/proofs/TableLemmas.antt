@@ -1,21 +1,22 @@
 -- The levels of rows of steps are the rows of states.
-use Rattle.std.proofs.Common.{◌≡◌, ◌↔◌, ℕ, ◌+◌, ◌*◌, ◌<◌, Bool, true, length, refl, arith}
+use Rattle.std.proofs.Common.{◌≡◌, ◌↔◌, ℕ, ◌+◌, ◌*◌, ◌<◌, Bool, true, length, refl, subst, arith}
 use Rattle.sel_algebra.specs.declared.vocabulary.Kind.{Kind}
 use Rattle.sel_algebra.specs.declared.vocabulary.Kind.TheVariants.{Fixed, Growing}
 use Rattle.sel_algebra.specs.Table.{kind_at}
-use Rattle.schema_graph.specs.Schema.{SchemaValue, IsSchema}
+use Rattle.schema_graph.specs.Schema.{SchemaValue}
 use Rattle.sel_graph.specs.declared.states.State.{State}
 use Rattle.sel_graph.specs.declared.levels.KindLevels.{KindLevels}
 use Rattle.sel_graph.specs.States.{place}
+use Rattle.sel_graph.specs.Numbers.{state_at}
 use Rattle.sel_graph.specs.Moves.{ReachValue, IsReach, symbols_most, moves_most}
-use Rattle.sel_graph.specs.Rows.{Leads, HasLevels}
+use Rattle.sel_graph.specs.Rows.{Leads, Back, HasLevels}
 use Rattle.sel_graph.specs.Steps.{SymbolStep, MoveStep}
-use Rattle.sel_graph.specs.Tables.{levels_of, HasStateRows, HasWalks, HasAfters}
-use Rattle.sel_graph.specs.Tests.{can_reach, can_come}
-use Rattle.sel_graph.proofs.PlaceLemmas.{place-below}
+use Rattle.sel_graph.specs.Tables.{levels_of, HasStateRows, HasWalks, HasBefores, HasAfters}
+use Rattle.sel_graph.specs.Tests.{can_reach, comes_from, can_come}
+use Rattle.sel_graph.proofs.PlaceLemmas.{place-below, place-parts}
 use Rattle.sel_graph.proofs.WalkLemmas.{reach_run}
 use Rattle.sel_graph.proofs.GoalLemmas.{come_run}
-use Rattle.sel_graph.proofs.RowLemmas.{same_truth}
+use Rattle.sel_graph.proofs.RowLemmas.{same_truth, Leads-back}
 use Rattle.sel_graph.proofs.StepLemmas.{run_leads, symbols_simulate, moves_simulate}
 
 -- levels of steps that lead where so many letters do
@@ -36,14 +37,32 @@ by_kind : (P : Kind → Type 0) → P Fixed → P Growing → (kind : Kind) → 
 by_kind P fixed growing Fixed = fixed
 by_kind P fixed growing Growing = growing
 
-pub walks_from_levels : (g : SchemaValue) → IsSchema g → (b : KindLevels) → HasLevels (symbols_most + 1) (5 * length g.kinds) (SymbolStep g Fixed) b.fixed.items
-    → HasLevels (symbols_most + 1) (5 * length g.kinds) (SymbolStep g Growing) b.growing.items → HasWalks g b
-walks_from_levels g is b fixed growing =
-    rows_from_levels g symbols_most (SymbolStep g) (can_reach g) b (by_kind (λ kind. HasLevels (symbols_most + 1) (5 * length g.kinds) (SymbolStep g kind) (levels_of b kind)) fixed growing)
-    (λ n s p here.
-    let leads = run_leads (symbols_simulate g is (kind_at g.kinds s.start)) n s p (here, refl) in
+-- so many symbols lead from a place just where the test says so
+symbols_lead : (g : SchemaValue) (n : ℕ) (s : State) (p : ℕ) → Leads (SymbolStep g (kind_at g.kinds s.start)) n (place s) p ↔ (can_reach g n s p ≡ true)
+symbols_lead g n s p =
+    let leads = run_leads (symbols_simulate g (kind_at g.kinds s.start)) n s p refl in
     let test = reach_run g n s p in
-    (λ h. test.1 (leads.0 h), λ h. leads.1 (test.0 h)))
+    (λ h. test.1 (leads.0 h), λ h. leads.1 (test.0 h))
+
+pub walks_from_levels : (g : SchemaValue) (b : KindLevels) → HasLevels (symbols_most + 1) (5 * length g.kinds) (SymbolStep g Fixed) b.fixed.items
+    → HasLevels (symbols_most + 1) (5 * length g.kinds) (SymbolStep g Growing) b.growing.items → HasWalks g b
+walks_from_levels g b fixed growing =
+    rows_from_levels g symbols_most (SymbolStep g) (can_reach g) b (by_kind (λ kind. HasLevels (symbols_most + 1) (5 * length g.kinds) (SymbolStep g kind) (levels_of b kind)) fixed growing)
+    (λ n s p here. symbols_lead g n s p)
+
+-- and to a place from another, where as many lead the other way
+symbols_come : (g : SchemaValue) (n : ℕ) (t : State) (p : ℕ) → Leads (Back (SymbolStep g (kind_at g.kinds t.start))) n (place t) p ↔ (comes_from g n t p ≡ true)
+symbols_come g n t p =
+    let from = state_at t.start p in
+    let lead = subst (λ x. Leads (SymbolStep g (kind_at g.kinds t.start)) n x (place t) ↔ (comes_from g n t p ≡ true)) (place-parts p) (symbols_lead g n from (place t)) in
+    let back = Leads-back (SymbolStep g (kind_at g.kinds t.start)) n p (place t) in
+    (λ h. lead.0 (back.0 h), λ h. back.1 (lead.1 h))
+
+pub befores_from_levels : (g : SchemaValue) (b : KindLevels) → HasLevels (symbols_most + 1) (5 * length g.kinds) (Back (SymbolStep g Fixed)) b.fixed.items
+    → HasLevels (symbols_most + 1) (5 * length g.kinds) (Back (SymbolStep g Growing)) b.growing.items → HasBefores g b
+befores_from_levels g b fixed growing =
+    rows_from_levels g symbols_most (λ kind. Back (SymbolStep g kind)) (comes_from g) b (by_kind (λ kind. HasLevels (symbols_most + 1) (5 * length g.kinds) (Back (SymbolStep g kind)) (levels_of b kind)) fixed growing)
+    (λ n t p here. symbols_come g n t p)
 
 pub afters_from_levels : (r : ReachValue) → IsReach r → (b : KindLevels) → HasLevels (moves_most + 1) (5 * length r.schema.kinds) (MoveStep r Fixed) b.fixed.items
     → HasLevels (moves_most + 1) (5 * length r.schema.kinds) (MoveStep r Growing) b.growing.items → HasAfters r b

@@ -1,5 +1,5 @@
 -- The test on walks decides whether there is one.
-use Rattle.std.proofs.Common.{◌≡◌, ◌↔◌, ℕ, suc, ◌<◌, ◌==◌, Bool, true, false, if◌then◌else◌, Some, None, List, [], ◌∷◌, length, refl, sym, ap, ◌∙◌, arith}
+use Rattle.std.proofs.Common.{◌≡◌, ◌↔◌, ℕ, suc, ◌<◌, ◌==◌, Bool, true, false, ◌&&◌, if◌then◌else◌, Some, None, List, [], ◌∷◌, length, refl, sym, ap, ◌∙◌, arith}
 use Rattle.std.proofs.lemmas.Bool.{eqb-true, eq-eqb, and_parts, and_from}
 use Rattle.std.proofs.lemmas.Option.{same_Some, none-some}
 use Rattle.std.proofs.lemmas.List.Elements.{All-get_or}
@@ -13,8 +13,9 @@ use Rattle.sel_graph.proofs.RunLemmas.{Decide, run_decided}
 use Rattle.sel_graph.specs.declared.states.State.{State}
 use Rattle.sel_graph.specs.States.{place, carried}
 use Rattle.sel_graph.specs.Walks.{CarriesBySymbol, HasWalk}
-use Rattle.sel_graph.specs.Tests.{carry, can_reach, can_walk}
-use Rattle.sel_graph.proofs.PlaceLemmas.{place-type, place-op, same_state}
+use Rattle.sel_graph.specs.Tests.{carry, can_reach, comes_from, can_walk}
+use Rattle.sel_graph.specs.Numbers.{state_at}
+use Rattle.sel_graph.proofs.PlaceLemmas.{place-type, place-op, same_state, state_at-place}
 use Rattle.sel_graph.proofs.SymbolLemmas.{first_symbols-contain, first_symbols-edge}
 
 -- what a choice with nothing on the other side gives
@@ -46,6 +47,10 @@ walk_start g (c ∷ word) s t (u, carries, runs) = walk_start g word u t runs �
 pub end_of-below : (g : SchemaValue) → IsSchema g → (c : Symbol) → c.edge < length g.edges → end_of g.edges c < length g.kinds
 end_of-below g is c known = (IsSchemaEdge-taken g.kinds c.back (edge_at g.edges c.edge) (All-get_or (IsSchemaEdge g.kinds) g.edges c.edge _ known is.each_edge)).target
 
+-- and so is its start
+pub start_of-below : (g : SchemaValue) → IsSchema g → (c : Symbol) → c.edge < length g.edges → start_of g.edges c < length g.kinds
+start_of-below g is c known = (IsSchemaEdge-taken g.kinds c.back (edge_at g.edges c.edge) (All-get_or (IsSchemaEdge g.kinds) g.edges c.edge _ known is.each_edge)).source
+
 -- symbols lead among the types of the schema
 walk_stays : (g : SchemaValue) → IsSchema g → (word : List Symbol) (s t : State) → Runs (CarriesBySymbol g) word s t → s.at < length g.kinds → t.at < length g.kinds
 walk_stays g is [] s t same inside = rw (ap (λ x. x.at) (sym same)) inside
@@ -70,6 +75,19 @@ reach_agrees g n s t start = (
       record { word = run.word; long = run.long; end = run.end; runs = run.runs; meets = come_to run.end t (walk_start g run.word s run.end run.runs ∙ sym start) run.meets },
   λ walk. (reach_run g n s (place t)).1 (record { word = walk.word; long = walk.long; end = walk.end; runs = walk.runs; meets = ap place walk.meets }),
 )
+
+-- the test on the places before is that on the places after
+pub comes_is : (g : SchemaValue) (n : ℕ) (s t : State) → t.start ≡ s.start → comes_from g n t (place s) ≡ can_reach g n s (place t)
+comes_is g n s t start = ap (λ x. can_reach g n x (place t)) (ap (λ x. state_at x (place s)) start ∙ state_at-place s)
+
+pub comes_walk : (g : SchemaValue) (n : ℕ) (s t : State) → t.start ≡ s.start → comes_from g n t (place s) ≡ can_walk g n s t
+comes_walk g n s t start = comes_is g n s t start ∙ ap (λ b. b && can_reach g n s (place t)) (sym (eq-eqb t.start s.start start))
+
+pub comes_agrees : (g : SchemaValue) (n : ℕ) (s t : State) → s.start ≡ t.start → (comes_from g n t (place s) ≡ true) ↔ HasWalk g n s t
+comes_agrees g n s t start =
+    let is = comes_is g n s t (sym start) in
+    let agree = reach_agrees g n s t (sym start) in
+    (λ test. agree.0 (sym is ∙ test), λ walk. is ∙ agree.1 walk)
 
 pub walk_agrees : (g : SchemaValue) (n : ℕ) (s t : State) → (can_walk g n s t ≡ true) ↔ HasWalk g n s t
 walk_agrees g n s t = (

@@ -1,6 +1,7 @@
 -- Rows of places, and what so many steps from place to place lead to.
 --   HasRows k Holds rows          k rows, of which row r has the numbers n with Holds r n
 --   Leads Steps n p q             some n steps lead from p to q, one after another
+--   Back Steps q p                a step leads from p to q: the steps taken the other way
 --   row_at levels n p             the row of place p after n steps
 --   HasLevels count k Steps l     for each number of steps below count, the rows of the first k places
 --   HasPlaces k Holds s           a row of places: those below 5 * k with a property
@@ -16,6 +17,10 @@ pub record HasRows (k : ℕ) (Holds : ℕ → ℕ → Type 0) (rows : List Numbe
 abbrev pub Leads : (ℕ → ℕ → Type 0) → ℕ → ℕ → ℕ → Type 0
 Leads Steps zero p q = p ≡ q
 Leads Steps (suc n) p q = (m : ℕ) × Steps p m × Leads Steps n m q
+
+-- the steps taken the other way: from q to p where a step leads from p to q
+abbrev pub Back : (ℕ → ℕ → Type 0) → ℕ → ℕ → Type 0
+Back Steps q p = Steps p q
 
 -- the rows after n steps
 abbrev pub level_at : List (List NumberSet) → ℕ → List NumberSet

@@ -2,10 +2,11 @@
 --   levels_of b kind           the levels of rows from starts of a kind
 --   HasStateRows g most Holds b   for each number of steps up to most and each state the places that it has
 --   HasWalks g b               the places to which so many symbols lead
+--   HasBefores g b             the places from which so many symbols lead
 --   HasAfters r b              the places to which so many moves lead
 --   HasWords r rows            for each type the plain moves from there
 --   HasGoals r rows            for each start and goal the places at which the goal is met
---   HasTables r w a rows       all but those of words
+--   HasTables r w b a rows       all but those of words
 use Rattle.std.specs.Prelude.{◌≡◌, ℕ, ◌+◌, ◌*◌, ◌<◌, ◌≤◌, Bool, IsTrue, List, length}
 use Rattle.sel_algebra.specs.declared.vocabulary.Kind.{Kind}
 use Rattle.sel_algebra.specs.declared.vocabulary.Kind.TheVariants.{Fixed, Growing}
@@ -19,7 +20,7 @@ use Rattle.sel_graph.specs.Rows.{HasRows, level_at, row_at}
 use Rattle.sel_graph.specs.Steps.{GoalMet}
 use Rattle.sel_graph.specs.Moves.{ReachValue, IsReach, symbols_most, moves_most}
 use Rattle.sel_graph.specs.Numbers.{goal_count}
-use Rattle.sel_graph.specs.Tests.{can_reach, can_come, leads_at}
+use Rattle.sel_graph.specs.Tests.{can_reach, comes_from, can_come, leads_at}
 
 -- the levels of rows from starts of a kind
 abbrev pub levels_of : KindLevels → Kind → List (List NumberSet)
@@ -36,6 +37,10 @@ pub record HasStateRows (g : SchemaValue) (most : ℕ) (holds : ℕ → State �
 abbrev pub HasWalks : SchemaValue → KindLevels → Type 0
 HasWalks g b = HasStateRows g symbols_most (can_reach g) b
 
+-- the places from which so many symbols lead
+abbrev pub HasBefores : SchemaValue → KindLevels → Type 0
+HasBefores g b = HasStateRows g symbols_most (comes_from g) b
+
 -- the places to which so many moves lead
 abbrev pub HasAfters : ReachValue → KindLevels → Type 0
 HasAfters r b = HasStateRows r.schema moves_most (can_come r) b
@@ -49,8 +54,9 @@ abbrev pub HasGoals : ReachValue → List NumberSet → Type 0
 HasGoals r rows = HasRows (goal_count * length r.schema.kinds) (GoalMet r) rows
 
 -- all rows but those of words
-pub record HasTables (r : ReachValue) (w a : KindLevels) (rows : List NumberSet) : Type 0 where
+pub record HasTables (r : ReachValue) (w b a : KindLevels) (rows : List NumberSet) : Type 0 where
   pub reach : IsReach r
   pub walks : HasWalks r.schema w
+  pub befores : HasBefores r.schema b
   pub afters : HasAfters r a
   pub goals : HasGoals r rows

@@ -1,5 +1,6 @@
 -- The tests that compute whether there is a walk, a move, or a list of moves.
 --   can_reach g n s p       whether some n symbols carry s to the state with its start at place p
+--   comes_from g n t p      whether some n symbols carry the state with the start of t at place p to t
 --   can_walk g n s t        whether some n symbols carry s to t
 --   leads_at r t p          whether some word of permitted length leads from t to place p
 --   is_plain r t u v        whether some word of permitted length leads from t to u with value v
@@ -21,7 +22,7 @@ use Rattle.sel_graph.specs.declared.states.State.{State}
 use Rattle.sel_graph.specs.declared.states.Move.{Move}
 use Rattle.sel_graph.specs.declared.states.Goal.{Goal}
 use Rattle.sel_graph.specs.States.{place_of, place, begun, carried, state_class}
-use Rattle.sel_graph.specs.Numbers.{all_moves, class_number}
+use Rattle.sel_graph.specs.Numbers.{state_at, all_moves, class_number}
 use Rattle.sel_graph.specs.Moves.{ReachValue, moved}
 
 -- the state to which a symbol carries a state, if it starts there
@@ -31,6 +32,10 @@ carry g s c = if start_of g.edges c == s.at then Some (carried g s c) else None
 -- whether some n symbols carry s to the state with its start at place p
 abbrev pub can_reach : SchemaValue → ℕ → State → ℕ → Bool
 can_reach g n s p = can_run (carry g) (first_symbols (length g.edges)) (λ u. place u == p) n s
+
+-- whether some n symbols carry the state with the start of t at place p to t
+abbrev pub comes_from : SchemaValue → ℕ → State → ℕ → Bool
+comes_from g n t p = can_reach g n (state_at t.start p) (place t)
 
 -- whether some n symbols carry s to t
 abbrev pub can_walk : SchemaValue → ℕ → State → State → Bool

@@ -2,10 +2,10 @@
 
 ghost use Rattle.std.specs.Prelude.{◌≡◌, ◌<◌, ◌≤◌, ◌*◌, ℕ, IsTrue, IfOk, length};
 ghost use Rattle.bit_rows.specs.Sets.{has, set_at};
-ghost use Rattle.sel_graph.specs.Rows.{HasRows, HasLevels, StepsBy, level_at, row_at};
+ghost use Rattle.sel_graph.specs.Rows.{HasRows, HasLevels, StepsBy, Back, level_at, row_at};
 ghost use Rattle.sel_graph.specs.Tables.{levels_of};
 
-use crate::rows::{Rows, grid_of, union_of};
+use crate::rows::{Rows, grid_of, rows_with, union_of};
 use bit_rows::{BitRow, Grid};
 use sel_algebra::Kind;
 use std::alloc::{AllocError, Global};
@@ -95,6 +95,49 @@ pub(crate) fn levels_from<R: Rows>(
 {
     let steps = grid_of(alloc, rows)?;
     all_levels(alloc, rows.count(), &steps, count)
+}
+
+/// For each place the places from which one step leads to it.
+#[derive(Drop)]
+struct BackSteps<'a> {
+    size: u32,
+    steps: &'a Grid<10>,
+    ghost long: { length steps.now ≡ size },
+    ghost few: { size ≤ 320 },
+}
+
+impl Rows for BackSteps<'_> {
+    ghost count = { λ s. s.size };
+
+    ghost holds = { λ s. Back (StepsBy s.steps.now) };
+
+    fn count(&self) -> u32 {
+        self.size
+    }
+
+    fn row(&self, r: u32) -> BitRow<10> {
+        rows_with(self.steps, self.size, r)
+    }
+}
+
+/// For each number of steps below `count` the rows of the places from which so many lead to each place, where the rows
+/// that are given say what one step does.
+pub(crate) fn levels_back<R: Rows>(
+    alloc: Global,
+    rows: &R,
+    count: usize,
+) -> Result<Vec<Grid<10>>, AllocError>
+    requires some { 1 ≤ count }
+    requires few { R.count rows.now ≤ 320 }
+    requires within { (p m : ℕ) → R.holds rows.now p m → p < R.count rows.now }
+    ensures { IfOk result (λ levels. HasLevels count (R.count rows.now) (Back (R.holds rows.now)) levels.items) }
+{
+    let steps = grid_of(alloc, rows)?;
+    let back = BackSteps {
+        size: rows.count(),
+        steps: &steps,
+    };
+    levels_from(alloc, &back, count)
 }
 
 /// Levels of rows, from starts of each kind.

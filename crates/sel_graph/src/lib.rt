@@ -4,6 +4,7 @@
 //! times the type's number, and the operator's number in their order.
 #![tactic(auto)]
 
+mod before_rows;
 mod goal_rows;
 pub mod laws;
 mod levels;

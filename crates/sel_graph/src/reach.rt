@@ -6,14 +6,15 @@ ghost use Rattle.sel_algebra.specs.declared.vocabulary.Op.{Op};
 ghost use Rattle.sel_graph.specs.States.{came_to, place_of, carried};
 ghost use Rattle.sel_graph.specs.Walks.{HasWalk};
 ghost use Rattle.sel_graph.specs.Moves.{symbols_most, moves_most, second_most, IsReach, IsPlainMove, IsMove, CarriesByMove, Joins, IsFeasible, moved};
-ghost use Rattle.sel_graph.specs.Tests.{leads_at, can_reach, can_walk, is_plain, is_move, joins, feasible};
+ghost use Rattle.sel_graph.specs.Tests.{leads_at, can_reach, comes_from, can_walk, is_plain, is_move, joins, feasible};
 
+use crate::before_rows::{before_rows, can_walk, states_before};
 use crate::goal_rows::{feasible, goal_rows};
 use crate::levels::KindLevels;
 use crate::move_rows::{can_step, joins, move_rows};
 use crate::moves::Moves;
 use crate::states::{Goal, Move, State};
-use crate::walk_rows::{can_walk, states_after, walk_rows};
+use crate::walk_rows::{states_after, walk_rows};
 use crate::word_rows::word_rows;
 use bit_rows::{BitRow, Grid};
 use gm_config::Range;
@@ -29,6 +30,8 @@ pub struct Reach {
     moves: Moves,
     /// The places to which so many symbols lead.
     walks: KindLevels,
+    /// The places from which so many symbols lead.
+    befores: KindLevels,
     /// The places to which so many moves lead.
     afters: KindLevels,
     /// For each start and goal the places at which the goal is met.
@@ -43,7 +46,7 @@ impl Model for Reach {
 
     ghost view = { λ r. r.moves };
 
-    ghost invariant = { λ r. HasTables r.moves r.walks r.afters r.goals };
+    ghost invariant = { λ r. HasTables r.moves r.walks r.befores r.afters r.goals };
 }
 
 impl Reach {
@@ -61,6 +64,7 @@ impl Reach {
         ensures { IfOk result (λ reach. reach ≡ record { schema = schema.now; lengths = lengths; stars = stars }) }
     {
         let walks = walk_rows(alloc, schema)?;
+        let befores = before_rows(alloc, schema)?;
         let words = word_rows(alloc, schema, &walks, lengths)?;
         let moves = Moves::of(schema.copy(alloc)?, lengths, stars, words);
         let afters = move_rows(alloc, &moves)?;
@@ -68,6 +72,7 @@ impl Reach {
         Ok(Reach {
             moves,
             walks,
+            befores,
             afters,
             goals,
         })
@@ -99,7 +104,7 @@ impl Reach {
         ensures test { result ≡ can_walk self.now.schema len from to }
         ensures exact { IsTrue result ↔ HasWalk self.now.schema len from to }
     {
-        can_walk(&self.walks, self.moves.schema(), len, from, to)
+        can_walk(&self.befores, self.moves.schema(), len, from, to)
     }
 
     /// The places to which exactly `len` symbols, at most [`SYMBOLS_MOST`](crate::SYMBOLS_MOST), carry a state.
@@ -114,6 +119,20 @@ impl Reach {
         ensures exact { (at : ℕ) (op : Op) → IsTrue (has result.now (place_of at op)) ↔ HasWalk self.now.schema len from (came_to from.start at op) }
     {
         states_after(&self.walks, self.moves.schema(), from, len)
+    }
+
+    /// The places from which exactly `len` symbols, at most [`SYMBOLS_MOST`](crate::SYMBOLS_MOST), carry a state of the start
+    /// of `to` to the state `to`.
+    ///
+    /// The place of a state is the one that [`State::place`] says.
+    pub fn states_before(&self, to: State, len: u8) -> &BitRow<10>
+        requires start { to.start < length self.now.schema.kinds }
+        requires there { to.at < length self.now.schema.kinds }
+        requires len { len ≤ symbols_most }
+        ensures test { (p : ℕ) → has result.now p ≡ comes_from self.now.schema len to p }
+        ensures exact { (at : ℕ) (op : Op) → IsTrue (has result.now (place_of at op)) ↔ HasWalk self.now.schema len (came_to to.start at op) to }
+    {
+        states_before(&self.befores, self.moves.schema(), to, len)
     }
 
     /// The places of the plain moves from a type: the type to which a move leads, with its value.

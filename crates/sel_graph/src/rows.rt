@@ -1,6 +1,6 @@
 //! Rows of places.
 
-ghost use Rattle.std.specs.Prelude.{◌≡◌, ◌↔◌, ◌<◌, ◌≤◌, ℕ, IsTrue, IfOk, length};
+ghost use Rattle.std.specs.Prelude.{◌≡◌, ◌↔◌, ◌<◌, ◌≤◌, ◌==◌, ◌||◌, ◌&&◌, ℕ, IsTrue, IfOk, length};
 ghost use Rattle.bit_rows.specs.Sets.{has, set_at};
 ghost use Rattle.sel_graph.specs.Rows.{HasRows};
 
@@ -47,4 +47,28 @@ pub(crate) fn union_of(members: &BitRow<10>, rows: &Grid<10>) -> BitRow<10>
         union.or_row(rows.row(m));
     }
     union
+}
+
+/// Which of the rows have a number.
+pub(crate) fn rows_with(rows: &Grid<10>, count: u32, q: u32) -> BitRow<10>
+    requires count { length rows.now ≡ count }
+    requires few { count ≤ 320 }
+    requires q { q < 320 }
+    ensures { (p : ℕ) → has result p ≡ has (set_at rows.now p) q }
+{
+    let mut having = BitRow::empty();
+    for p in 0..count {
+        set_if(&mut having, p, rows.row(p).get(q));
+    }
+    having
+}
+
+/// Puts a number into a row, if it shall be there.
+fn set_if(row: &mut BitRow<10>, n: u32, shall: bool)
+    requires { n < 320 }
+    ensures { (p : ℕ) → has row.new p ≡ (has row.old p || (shall && (n == p))) }
+{
+    if shall {
+        row.set(n);
+    }
 }

@@ -1,10 +1,10 @@
 //! States, the moves between them, and goals.
 
-ghost use Rattle.std.specs.Prelude.{◌≡◌, ◌<◌, length};
-ghost use Rattle.sel_graph.specs.States.{begun, carried_to};
+ghost use Rattle.std.specs.Prelude.{◌≡◌, ◌<◌, ◌+◌, ◌*◌, length};
+ghost use Rattle.sel_graph.specs.States.{begun, carried_to, place};
 ghost use Rattle.sel_graph.specs.Numbers.{move_of};
 
-use crate::places::op_at;
+use crate::places::{op_at, place_of};
 use schema_graph::Schema;
 use sel_algebra::{Class, Op, compose, normal};
 
@@ -29,6 +29,14 @@ impl State {
             at: t,
             op: Op::Equal,
         }
+    }
+
+    /// Its place: five times the number of the type to which it has come, and the number of its operator in the order of [`Op`].
+    pub fn place(self) -> u32
+        ensures place { result ≡ place self }
+        ensures within { result < 5 * self.at + 5 }
+    {
+        place_of(self.at, self.op)
     }
 
     /// The state after a further path to a type with an operator.

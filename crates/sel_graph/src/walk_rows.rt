@@ -9,7 +9,7 @@ ghost use Rattle.sel_graph.specs.Moves.{symbols_most};
 ghost use Rattle.sel_graph.specs.Rows.{HasLevels};
 ghost use Rattle.sel_graph.specs.Steps.{symbol_place, symbol_steps, SymbolStep};
 ghost use Rattle.sel_graph.specs.Tables.{HasWalks};
-ghost use Rattle.sel_graph.specs.Tests.{can_reach, can_walk};
+ghost use Rattle.sel_graph.specs.Tests.{can_reach};
 
 use crate::SYMBOLS_MOST;
 use crate::levels::{KindLevels, levels_from};
@@ -23,10 +23,10 @@ use std::alloc::{AllocError, Global};
 
 /// For each place the places to which one symbol carries it, from starts of a kind.
 #[derive(Drop)]
-struct SymbolRows<'a> {
-    schema: &'a Schema,
-    kind: Kind,
-    types: u8,
+pub(crate) struct SymbolRows<'a> {
+    pub(crate) schema: &'a Schema,
+    pub(crate) kind: Kind,
+    pub(crate) types: u8,
     ghost types_are: { types ≡ length schema.now.kinds },
     ghost known: { IsSchema schema.now },
 }
@@ -124,17 +124,4 @@ pub(crate) fn states_after<'a>(
 {
     let kind = schema.kind(from.start);
     walks.row(kind, len as usize, place_of(from.at, from.op))
-}
-
-/// Whether so many symbols carry a state to a state.
-pub(crate) fn can_walk(walks: &KindLevels, schema: &Schema, len: u8, from: State, to: State) -> bool
-    requires walks { HasWalks schema.now walks.now }
-    requires known { IsSchema schema.now }
-    requires len { len ≤ symbols_most }
-    requires start { from.start < length schema.now.kinds }
-    requires here { from.at < length schema.now.kinds }
-    requires to { to.at < length schema.now.kinds }
-    ensures { result ≡ can_walk schema.now len from to }
-{
-    to.start == from.start && states_after(walks, schema, from, len).get(place_of(to.at, to.op))
 }

@@ -7,6 +7,7 @@ use Rattle.std.specs.Option.{IsNone, IfSome, is_some, option_map}
 use Rattle.std.proofs.lemmas.Bool.{cases_Bool, true≢false, lt-ltb, le-ltb, ltb-true, eqb-true, eq-eqb, and_parts, and_from}
 use Rattle.std.proofs.lemmas.List.Sums.{length-filter, count_by-le-length}
 use Rattle.std.proofs.lemmas.List.FromFn.{length-range_with_len}
+use Rattle.sel_algebra.specs.declared.vocabulary.Symbol.{Symbol}
 use Rattle.schema_graph.specs.Schema.{SchemaValue}
 use Rattle.schema_graph.specs.Symbols.{symbols_of}
 use Rattle.candidates.specs.Picked.{picked, numbers_that}
@@ -17,8 +18,10 @@ use Rattle.sel_graph.specs.declared.states.State.{State}
 use Rattle.sel_graph.specs.declared.states.Move.{Move}
 use Rattle.sel_graph.specs.Numbers.{op_at, move_of, moves_of}
 use Rattle.sel_graph.specs.Moves.{ReachValue}
-use Rattle.sel_graph.specs.Tests.{leads_at, is_plain, is_move}
-use Rattle.sel_graph.proofs.PlaceLemmas.{place-parts}
+use Rattle.sel_graph.specs.States.{place, came_to, carried}
+use Rattle.sel_graph.specs.Tests.{leads_at, comes_from, is_plain, is_move}
+use Rattle.sel_graph.proofs.PlaceLemmas.{place-parts, same_state}
+use Rattle.sel_graph.proofs.WalkLemmas.{comes_walk}
 use Rattle.sel_graph.proofs.MoveLemmas.{moves_of-numbered}
 use Rattle.sel_graph.proofs.RowLemmas.{same_truth}
 use Rattle.walk_pick.specs.LiveRows.{live_step}
@@ -38,6 +41,12 @@ pub picked_symbol : (g : SchemaValue) (s to : State) (n w : ℕ) (o : Option ℕ
     → picked w (symbol_candidates g s to n) ≡ option_map (nth_symbol g s.at) o
 picked_symbol g s to n w o is =
     picked_at w (keeps_walk g s to n) (symbols_of g.edges s.at) (record { edge = 0; back = false }) ∙ ap (option_map (nth_symbol g s.at)) (sym is)
+
+-- whether a symbol keeps a walk is told by the places before the walk's end, where the starts are the same
+pub kept_walk : (g : SchemaValue) (s to : State) (n : ℕ) (c : Symbol) → to.start ≡ s.start → comes_from g n (came_to s.start to.at to.op) (place (carried g s c)) ≡ keeps_walk g s to n c
+kept_walk g s to n c start =
+    let end : came_to s.start to.at to.op ≡ to = same_state (came_to s.start to.at to.op) to (sym start) refl refl in
+    ap (λ x. comes_from g n x (place (carried g s c))) end ∙ comes_walk g n (carried g s c) to start
 
 -- what a word picks is none just where there is none
 pub none_is_none : {X : Type 0} (w : ℕ) (xs : List X) (o : Option X) → w < 2 ^ 64 → o ≡ picked w xs → IsNone o ↔ (xs ≡ [])

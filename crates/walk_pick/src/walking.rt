@@ -1,14 +1,18 @@
 //! The length and the symbols of a word.
 
-ghost use Rattle.std.specs.Prelude.{◌≡◌, ◌↔◌, ◌<◌, ◌≤◌, ◌+◌, ◌-◌, true, [], length, slice_index_or, IsNone, IfSome, option_map};
+ghost use Rattle.std.specs.Prelude.{◌≡◌, ◌↔◌, ◌<◌, ◌≤◌, ◌+◌, ◌-◌, ℕ, true, [], length, slice_index_or, IsNone, IfSome, option_map};
+ghost use Rattle.bit_rows.specs.Sets.{has};
 ghost use Rattle.candidates.specs.Picked.{picked, numbers_that};
 ghost use Rattle.schema_graph.specs.Edge.{start_of};
+ghost use Rattle.schema_graph.specs.Schema.{IsSchema};
 ghost use Rattle.schema_graph.specs.Symbols.{symbols_of};
 ghost use Rattle.sel_graph.specs.Moves.{symbols_most};
 ghost use Rattle.sel_graph.specs.States.{came_to};
+ghost use Rattle.sel_graph.specs.Tests.{comes_from};
 ghost use Rattle.walk_pick.specs.Candidates.{has_length, length_candidates, keeps_walk, nth_symbol, symbol_candidates};
 
 use crate::ranges::{count_of, from_least};
+use bit_rows::BitRow;
 use candidates::{Candidates, pick_among};
 use gm_config::Range;
 use schema_graph::Schema;
@@ -55,11 +59,12 @@ struct Symbols<'a> {
     at: State,
     to: State,
     left: u8,
+    /// The places from which so many symbols lead to where `to` has come, from the start of `at`.
+    before: &'a BitRow<10>,
     ghost same: { reach.now.schema ≡ schema.now },
     ghost start: { at.start < length schema.now.kinds },
     ghost here: { at.at < length schema.now.kinds },
-    ghost there: { to.at < length schema.now.kinds },
-    ghost few: { left ≤ symbols_most },
+    ghost places: { (p : ℕ) → has before.now p ≡ comes_from schema.now left (came_to at.start to.at to.op) p },
 }
 
 impl<'a> Candidates for Symbols<'a> {
@@ -74,7 +79,7 @@ impl<'a> Candidates for Symbols<'a> {
     fn is_live(&self, i: u32) -> bool {
         let symbol = nth_symbol(self.schema, self.at.at, i);
         let after = self.reach.carried(self.at, symbol);
-        self.reach.reaches(after, self.to, self.left)
+        self.to.start == self.at.start && self.before.get(after.place())
     }
 }
 
@@ -122,12 +127,18 @@ pub fn pick_symbol(
     ensures none { IsNone result ↔ (symbol_candidates schema.now at to left ≡ []) }
     ensures live { IfSome result (λ c. (c.edge < length schema.now.edges) × (start_of schema.now.edges c ≡ at.at) × (keeps_walk schema.now at to left c ≡ true)) }
 {
+    let end = State {
+        start: at.start,
+        at: to.at,
+        op: to.op,
+    };
     let symbols = Symbols {
         reach,
         schema,
         at,
         to,
         left,
+        before: reach.states_before(end, left),
     };
     match pick_among(&symbols, w) {
         Some(i) => Some(nth_symbol(schema, at.at, i)),
@@ -142,6 +153,7 @@ fn nth_symbol(schema: &Schema, t: u8, i: u32) -> Symbol
     ensures symbol { result ≡ nth_symbol schema.now t i }
     ensures edge { result.edge < length schema.now.edges }
     ensures start { start_of schema.now.edges result ≡ t }
+    ensures schema { IsSchema schema.now }
 {
     schema.symbol_from(t, i)
 }

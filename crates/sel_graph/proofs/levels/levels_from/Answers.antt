@@ -7,4 +7,4 @@ pub returns : goal.returns
 returns g c =
     let rows = c.args.rows.now in
     IfOk-weaker c.all_levels.result _ (λ levels. HasLevels c.args.count (g.R.Rows.count rows) (g.R.Rows.holds rows) levels.items)
-    (λ levels l. HasLevels-same c.args.count (g.R.Rows.count rows) c.in_ok-steps.steps levels.items c.in_ok-steps.ensures c.requires.within l) (rw c.count.ensures at c.all_levels.ensures)
+    (λ levels l. HasLevels-same c.args.count (g.R.Rows.count rows) levels.items (λ p q below. c.in_ok-steps.ensures.marked p q below) c.requires.within l) (rw c.count.ensures at c.all_levels.ensures)

@@ -1,0 +1,5 @@
+use Rattle.sel_graph.proofs.TableLemmas.{befores_from_levels}
+use Rattle.sel_graph.proofs.before_rows.before_rows.Goals as goal
+
+pub returns : goal.returns
+returns c = befores_from_levels c.args.schema.now (record { fixed = c.in_ok-fixed.fixed; growing = c.in_ok-growing.growing }) c.in_ok-fixed.ensures c.in_ok-growing.ensures
