@@ -13,18 +13,21 @@ pub(crate) fn number_below(word: &[u8], limit: u8) -> Option<u8>
         (nat_lt (number word.now) limit ≡ false)
         (λ n. (number word.now ≡ n) × (n < limit)) }
 {
-    match read_decimal(word) {
-        Decimal::Value(n) => below(n, limit),
-        Decimal::Big => None,
-        Decimal::No => None,
+    let mut value = 0u16;
+    for byte in word {
+        value = value * 10 + (*byte - b'0') as u16;
+        if value >= limit as u16 {
+            return None;
+        }
     }
+    below(value, limit)
 }
 
 /// The number, where it is below a limit.
-fn below(n: u64, limit: u8) -> Option<u8>
+fn below(n: u16, limit: u8) -> Option<u8>
     ensures { MatchOption result (nat_lt n limit ≡ false) (λ small. (n ≡ small) × (small < limit)) }
 {
-    if n < limit as u64 {
+    if n < limit as u16 {
         Some(n as u8)
     } else {
         None
