@@ -1,6 +1,7 @@
 pub mod AllEdgesLemmas
 pub mod DrawingLemmas
 pub mod FreeSideLemmas
+pub mod GreatestLemmas
 pub mod LimitLemmas
 pub mod MatchedLemmas
 pub mod MatchingLemmas

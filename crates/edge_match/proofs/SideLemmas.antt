@@ -56,6 +56,15 @@ not_above : (free : Bool) (most total : ℕ) (report : TooManyStubs) → free �
     → cond free None (cond (nat_lt most total) (Some report) None) ≡ None → total ≤ most
 not_above free most total report drawn none = grind (arith, nat_tests)
 
+few_enough : (free : Bool) (most total : ℕ) (report : TooManyStubs) → free ≡ false → total ≤ most
+    → cond free None (cond (nat_lt most total) (Some report) None) ≡ None
+few_enough free most total report drawn few = grind (arith, nat_tests)
+
+-- a side with few stubs has no report
+pub side_over-few : (config : ConfigValue) (seed c : ℕ) (side : Side) → is_free config c side ≡ false
+    → table_total config seed c side ≤ stubs_most → side_over config seed c side ≡ None
+side_over-few config seed c side drawn few = few_enough _ stubs_most _ _ drawn few
+
 pub is_some-false : {A : Type 0} (o : Option A) → is_some o ≡ false → o ≡ None
 is_some-false None none = refl
 is_some-false (Some x) none = absurd (cc)

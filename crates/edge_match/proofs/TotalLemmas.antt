@@ -19,7 +19,7 @@ test-true : (a b : ℕ) → (a == b) ≡ true → a ≡ b
 test-true a b same = grind (arith, nat_tests)
 
 -- a word picks a number below m
-pick-below : (w m : ℕ) → w < 2 ^ 64 → 0 < m → pick_of w m < m
+pub pick-below : (w m : ℕ) → w < 2 ^ 64 → 0 < m → pick_of w m < m
 pick-below w m small some =
     let product : m * (w + 1) ≤ m * 2 ^ 64 = mul-le-mul_left m (omega arith) in
     omega (arith, product)

@@ -2,6 +2,7 @@
 --   degree_tag, key_tag, pick_tag side  the tags of the side's streams: of degrees, of keys, of picks
 --   degree_by table w                   the degree that a word picks from a table
 --   degrees_by table seed stream count  the degrees that as many words pick
+--   side_table config c side            the table of the specification of a side that is not free
 --   table_degrees config seed c side    the degrees of the nodes of a side that is not free
 --   table_total config seed c side      their sum
 --   side_degrees config seed c side     the degrees of the nodes of any side
@@ -44,11 +45,14 @@ degree_by table w = degree_of table (pick_of w (sum table.weights))
 unfoldable pub degrees_by : WeightedDegrees → (seed stream count : ℕ) → List ℕ
 degrees_by table seed stream count = map (λ i. degree_by table (word seed stream i)) (range_with_len 0 count)
 
+-- the table of the specification of a side that is not free
+abbrev pub side_table : ConfigValue → ℕ → Side → WeightedDegrees
+side_table config c side = table_of (side_spec config c side) (side_count config c (opposite side))
+
 -- the degrees of the nodes of a side that is not free: word i picks that of the node at place i, from the table
 -- of the side's specification
 unfoldable pub table_degrees : ConfigValue → (seed c : ℕ) → Side → List ℕ
-table_degrees config seed c side =
-    degrees_by (table_of (side_spec config c side) (side_count config c (opposite side))) seed (stream_of (degree_tag side) c 0) (side_count config c side)
+table_degrees config seed c side = degrees_by (side_table config c side) seed (stream_of (degree_tag side) c 0) (side_count config c side)
 
 -- the number of stubs of a side that is not free
 abbrev pub table_total : ConfigValue → (seed c : ℕ) → Side → ℕ

@@ -4,7 +4,7 @@ ghost use Rattle.std.specs.Prelude.{◌≡◌, ◌<◌, ◌≤◌, ℕ, false, t
 ghost use Rattle.gm_config.specs.Limits.{nodes_most};
 ghost use Rattle.edge_match.specs.ConfigSides.{opposite, is_free};
 ghost use Rattle.edge_match.specs.declared.errors.TooManyStubs.{TooManyStubs};
-ghost use Rattle.edge_match.specs.DrawnDegrees.{degrees_by, table_degrees, table_total, side_degrees, side_total, smaller_total};
+ghost use Rattle.edge_match.specs.DrawnDegrees.{degrees_by, side_table, table_degrees, table_total, side_degrees, side_total, smaller_total};
 ghost use Rattle.edge_match.specs.StubLimit.{stubs_most};
 ghost use Rattle.edge_match.specs.Limit.{too_many, side_over, first_side_over, IsWithinLimit, IsFirstOver};
 
@@ -34,8 +34,8 @@ pub fn side_total(
     requires drawn { is_free config.now c side ≡ false }
     ensures { IfOk result (λ total. total ≡ side_total config.now seed c side) }
 {
-    let degrees = table_degrees(alloc, config, seed, c, side)?;
-    Ok(total_of(&degrees))
+    let table = table_at(alloc, config, c, side)?;
+    Ok(total_from(config, &table, seed, c, side))
 }
 
 /// The number of edges of a constraint: the smaller of the numbers of stubs of its two sides. `c` is the number of the
@@ -44,13 +44,20 @@ pub fn smaller_total(alloc: Global, config: &Config, seed: u64, c: u8) -> Result
     requires known { c < length config.now.constraints }
     ensures { IfOk result (λ total. total ≡ smaller_total config.now seed c) }
 {
-    let outs = stub_count(alloc, config, seed, c, Side::Out)?;
-    let ins = stub_count(alloc, config, seed, c, Side::In)?;
+    if is_free(config, c, Side::Out) {
+        return free_total(alloc, config, seed, c, Side::Out);
+    }
+    if is_free(config, c, Side::In) {
+        return free_total(alloc, config, seed, c, Side::In);
+    }
+    let outs = side_total(alloc, config, seed, c, Side::Out)?;
+    let ins = side_total(alloc, config, seed, c, Side::In)?;
     Ok(outs.min(ins))
 }
 
-/// The number of stubs of a side: a free one has as many as the other side, or none where it has no node.
-fn stub_count(
+/// The number of stubs of a free side: as many as those of the other side, or none where it has no node. So it is never
+/// the greater of the two.
+fn free_total(
     alloc: Global,
     config: &Config,
     seed: u64,
@@ -58,11 +65,10 @@ fn stub_count(
     side: Side,
 ) -> Result<u64, AllocError>
     requires known { c < length config.now.constraints }
-    ensures { IfOk result (λ total. total ≡ side_total config.now seed c side) }
+    requires free { is_free config.now c side ≡ true }
+    requires drawn { is_free config.now c (opposite side) ≡ false }
+    ensures { IfOk result (λ total. total ≡ smaller_total config.now seed c) }
 {
-    if !is_free(config, c, side) {
-        return side_total(alloc, config, seed, c, side);
-    }
     if count_of(config, c, side) == 0 {
         return Ok(0);
     }
@@ -158,7 +164,11 @@ fn side_over(
     if is_free(config, c, side) {
         return Ok(None);
     }
-    let total = side_total(alloc, config, seed, c, side)?;
+    let table = table_at(alloc, config, c, side)?;
+    if greatest_total(&table, count_of(config, c, side)) <= STUBS_MOST {
+        return Ok(None);
+    }
+    let total = total_from(config, &table, seed, c, side);
     Ok(too_many(c, side, total))
 }
 
@@ -234,10 +244,49 @@ fn table_degrees(
     ensures degrees { IfOk result (λ degrees. degrees.items ≡ table_degrees config.now seed c side) }
     ensures few { IfOk result (λ degrees. length degrees.items ≤ nodes_most) }
 {
-    let spec = spec_of(config, c, side);
-    let table = DegreeTable::of(alloc, spec, count_of(config, c, side.opposite()))?;
+    let table = table_at(alloc, config, c, side)?;
     let words = stream(side.degree_tag(), u32::from(c), 0);
     degrees_by(alloc, &table, seed, words, count_of(config, c, side))
+}
+
+/// The table of the specification of a side that is not free.
+fn table_at(alloc: Global, config: &Config, c: u8, side: Side) -> Result<DegreeTable, AllocError>
+    requires known { c < length config.now.constraints }
+    requires drawn { is_free config.now c side ≡ false }
+    ensures { IfOk result (λ table. table ≡ side_table config.now c side) }
+{
+    let spec = spec_of(config, c, side);
+    DegreeTable::of(alloc, spec, count_of(config, c, side.opposite()))
+}
+
+/// The sum of the degrees of a side that is not free, each picked from the table of its specification.
+#[tactic(auto, unfolding(crate::specs::DrawnDegrees::table_degrees))]
+fn total_from(config: &Config, table: &DegreeTable, seed: u64, c: u8, side: Side) -> u64
+    requires known { c < length config.now.constraints }
+    requires table { table.now ≡ side_table config.now c side }
+    ensures { result ≡ table_total config.now seed c side }
+{
+    let words = stream(side.degree_tag(), u32::from(c), 0);
+    total_by(table, seed, words, count_of(config, c, side))
+}
+
+/// The sum of so many degrees if each were the greatest of a table: no words pick more.
+fn greatest_total(table: &DegreeTable, count: u32) -> u64
+    ensures { (seed stream : ℕ) → sum (degrees_by table.now seed stream count) ≤ result }
+{
+    u64::from(table.greatest()) * u64::from(count)
+}
+
+/// The sum of the degrees that as many words of a stream pick from a table.
+fn total_by(table: &DegreeTable, seed: u64, stream: u128, count: u32) -> u64
+    ensures { result ≡ sum (degrees_by table.now seed stream count) }
+{
+    let mut total = 0;
+    let mut draws = Draws::new(seed, stream);
+    for _ in 0..count {
+        total += u64::from(table.degree_at(draws.next()));
+    }
+    total
 }
 
 /// The degrees that as many words of a stream pick from a table.
