@@ -2,6 +2,7 @@ pub mod NameLemmas
 pub mod HeadLemmas
 pub mod NumberLemmas
 pub mod UnionLemmas
+pub mod JoinedLemmas
 pub mod StateLemmas
 pub mod ReaderLemmas
 pub mod SoundLemmas

@@ -12,3 +12,4 @@ pub mod State
 pub mod Reader
 pub mod Writing
 pub mod Laws
+pub mod Joined

@@ -5,7 +5,8 @@ ghost use Rattle.std.specs.List.{slice_split, list_all};
 ghost use Rattle.gm_text.specs.Lines.{is_byte};
 ghost use Rattle.gm_text.specs.Decimal.{is_canonical};
 ghost use Rattle.workload_text.specs.View.{parts_left};
-ghost use Rattle.workload_text.specs.Forms.{one_word, two_words, four_words, is_variable, is_against, number_word, is_symbol_word, is_path_word, is_union_word, is_starred_word, within_star};
+ghost use Rattle.workload_text.specs.Forms.{one_word, two_words, four_words, is_variable, is_against, number_word, is_union_word, is_starred_word, within_star};
+ghost use Rattle.workload_text.specs.Joined.{is_joint, starts_number, fits};
 
 use crate::sorts::begins_with_x;
 use gm_text::{Words, is_canonical};
@@ -156,37 +157,47 @@ pub(crate) fn number_word(word: &[u8]) -> &[u8]
     if is_against(word) { &word[1..] } else { word }
 }
 
-/// Whether the word is a symbol: a canonical decimal, or `^` and one.
-fn is_symbol_word(word: &[u8]) -> bool
-    ensures { result ≡ is_symbol_word word.now }
-{
-    is_canonical(number_word(word))
-}
-
-/// Whether the word is symbols joined by `.`.
-fn is_path_word(word: &[u8]) -> bool
-    ensures { result ≡ is_path_word word.now }
-{
-    let mut parts = Parts::new(word, b'.');
-    while let Some(part) = parts.next_part() {
-        if !is_symbol_word(part) {
-            return false;
-        }
-    }
-    true
-}
-
 /// Whether the word is symbols joined by `.`, and such words joined by `+`.
+///
+/// Each byte is tested by the two before it and without a branch, since most of a text are such words.
 pub(crate) fn is_union_word(word: &[u8]) -> bool
     ensures { result ≡ is_union_word word.now }
 {
-    let mut parts = Parts::new(word, b'+');
-    while let Some(part) = parts.next_part() {
-        if !is_path_word(part) {
-            return false;
-        }
+    let mut fit = true;
+    let mut second = b'.';
+    let mut before = b'.';
+    for byte in word {
+        fit = fit & fits(second, before, *byte);
+        second = before;
+        before = *byte;
     }
-    true
+    fit && before.is_ascii_digit()
+}
+
+/// Whether the byte may stand after these two: a digit where a number starts or goes on, which it doesn't after a
+/// first `0`; `^` where a symbol starts; `.` or `+` after a digit.
+fn fits(second: u8, before: u8, byte: u8) -> bool
+    ensures { result ≡ fits second before byte }
+{
+    let first_zero = (before == b'0') & starts_number(second);
+    let goes_on = before.is_ascii_digit() & !first_zero;
+    (byte.is_ascii_digit() & (starts_number(before) | goes_on))
+        | ((byte == b'^') & is_joint(before))
+        | (is_joint(byte) & before.is_ascii_digit())
+}
+
+/// Whether a number may start after the byte.
+fn starts_number(byte: u8) -> bool
+    ensures { result ≡ starts_number byte }
+{
+    is_joint(byte) | (byte == b'^')
+}
+
+/// Whether the byte is `.` or `+`.
+fn is_joint(byte: u8) -> bool
+    ensures { result ≡ is_joint byte }
+{
+    (byte == b'.') | (byte == b'+')
 }
 
 /// Whether the word begins with `(` and ends with `)*`.
