@@ -10,4 +10,4 @@ mod reading;
 pub use decimals::{Decimal, is_canonical, read_decimal, write_decimal};
 pub use lists::{Arena, Items, Span};
 pub use naming::{NAME_MOST, Name, Names, are_name_bytes, is_name, is_name_byte};
-pub use reading::{Line, Scan, Words};
+pub use reading::{Line, Scan, Words, cut_at};

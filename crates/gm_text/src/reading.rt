@@ -113,8 +113,8 @@ impl<'t> Words<'t> {
     }
 }
 
-/// What stands before the first such byte, and what stands after it.
-fn cut_at(bytes: &[u8], end: u8) -> Option<(&[u8], &[u8])>
+/// What stands before the first such byte, and what stands after it, or `None` exactly where there is none.
+pub fn cut_at(bytes: &[u8], end: u8) -> Option<(&[u8], &[u8])>
     ensures { MatchOption result
         (slice_split (is_byte end) bytes.now ≡ bytes.now ∷ [])
         (λ cut. slice_split (is_byte end) bytes.now ≡ cut.0.now ∷ slice_split (is_byte end) cut.1.now) }

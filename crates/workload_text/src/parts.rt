@@ -1,6 +1,6 @@
 //! The words of lines, and the parts of words.
 
-ghost use Rattle.std.specs.Prelude.{◌≡◌, ◌∷◌, [], None, position, option_map, MatchOption, IfNone};
+ghost use Rattle.std.specs.Prelude.{◌≡◌, ◌∷◌, [], None, option_map, MatchOption, IfNone};
 ghost use Rattle.std.specs.List.{slice_split, list_all};
 ghost use Rattle.gm_text.specs.Lines.{is_byte};
 ghost use Rattle.gm_text.specs.Decimal.{is_canonical};
@@ -9,7 +9,7 @@ ghost use Rattle.workload_text.specs.Forms.{one_word, two_words, four_words, is_
 ghost use Rattle.workload_text.specs.Joined.{is_joint, starts_number, fits};
 
 use crate::sorts::begins_with_x;
-use gm_text::{Words, is_canonical};
+use gm_text::{Words, cut_at, is_canonical};
 use std::marker::Model;
 
 /// The parts of bytes between a separator, each taken once.
@@ -58,25 +58,6 @@ impl<'t> Parts<'t> {
             }
         }
     }
-}
-
-/// What stands before the first such byte, and what stands after it.
-fn cut_at(bytes: &[u8], end: u8) -> Option<(&[u8], &[u8])>
-    ensures { MatchOption result
-        (slice_split (is_byte end) bytes.now ≡ bytes.now ∷ [])
-        (λ cut. slice_split (is_byte end) bytes.now ≡ cut.0.now ∷ slice_split (is_byte end) cut.1.now) }
-{
-    let Some(place) = first_place(bytes, end) else {
-        return None;
-    };
-    Some((&bytes[..place], &bytes[place + 1..]))
-}
-
-/// The place of the first such byte.
-fn first_place(bytes: &[u8], sought: u8) -> Option<usize>
-    ensures { result ≡ position (is_byte sought) bytes.now }
-{
-    bytes.iter().position(|byte| *byte == sought)
 }
 
 /// The only word that is left.
