@@ -20,20 +20,29 @@ fn a_source_fails_at_call_2(rt: HostRuntime) -> Result<(), Fail> {
 }
 
 #[test]
-fn an_input_is_read_whole_or_not_at_all(rt: HostRuntime) -> Result<(), Fail> {
+fn an_input_is_read_whole(rt: HostRuntime) -> Result<(), Fail> {
     let alloc = rt.alloc();
     let mut source = MemSource::new(b"abcde".to_vec(alloc)?, Vec::new(alloc));
     assert_eq!(rt;
         read_all(alloc, &mut source)?.as_slice(),
         b"abcde".as_slice()
     );
+    Ok(())
+}
 
+#[test]
+fn a_slice_is_read_whole(rt: HostRuntime) -> Result<(), Fail> {
     let mut source = SliceSource::new(b"abcde");
     assert_eq!(rt;
-        read_all(alloc, &mut source)?.as_slice(),
+        read_all(rt.alloc(), &mut source)?.as_slice(),
         b"abcde".as_slice()
     );
+    Ok(())
+}
 
+#[test]
+fn an_input_with_a_fault_is_not_read(rt: HostRuntime) -> Result<(), Fail> {
+    let alloc = rt.alloc();
     let mut source = MemSource::new(b"abcde".to_vec(alloc)?, vec![in alloc; 1]?);
     assert!(rt; matches!(&read_all(alloc, &mut source), Err(ReadError::ReadFault)));
     Ok(())
@@ -50,18 +59,28 @@ fn put(folder: &mut MemFolder, name: &str, piece: &[u8]) -> Result<(), Failed>
     written
 }
 
+/// The name and the bytes of a file, and `None` where the folder has no such file.
+fn told(folder: &MemFolder, n: usize) -> Option<(&str, &[u8])> {
+    if n < folder.file_count() {
+        Some((folder.name(n), folder.bytes(n)))
+    } else {
+        None
+    }
+}
+
 #[test]
 fn a_folder_tells_its_files(rt: HostRuntime) -> Result<(), Fail> {
     let alloc = rt.alloc();
     let mut folder = MemFolder::new(alloc, Vec::new(alloc), 0, 2, 100)?;
-    assert_eq!(rt; put(&mut folder, "one", b"first"), Ok(()));
-    assert_eq!(rt; put(&mut folder, "two", b"second"), Ok(()));
-    assert_eq!(rt; put(&mut folder, "three", b"third"), Err(Failed));
-    assert_eq!(rt; folder.file_count(), 2);
-    assert_eq!(rt; folder.name(0), "one");
-    assert_eq!(rt; folder.bytes(0), b"first".as_slice());
-    assert_eq!(rt; folder.name(1), "two");
-    assert_eq!(rt; folder.bytes(1), b"second".as_slice());
+    let answers = [
+        put(&mut folder, "one", b"first"),
+        put(&mut folder, "two", b"second"),
+        put(&mut folder, "three", b"third"),
+    ];
+    assert_eq!(rt; answers, [Ok(()), Ok(()), Err(Failed)]);
+    assert_eq!(rt; told(&folder, 0), Some(("one", b"first".as_slice())));
+    assert_eq!(rt; told(&folder, 1), Some(("two", b"second".as_slice())));
+    assert_eq!(rt; told(&folder, 2), None);
     Ok(())
 }
 
