@@ -65,7 +65,7 @@ abbrev pub IsOfKind : SchemaValue → Kind → State → Type 0
 IsOfKind g kind s = (s.at < length g.kinds) × (kind_at g.kinds s.start ≡ kind)
 
 -- the place after a symbol is that of the state after it
-symbol_lands : (g : SchemaValue) (kind : Kind) (s : State) (c : Symbol) → kind_at g.kinds s.start ≡ kind → place (carried g s c) ≡ symbol_place g kind (place s) c
+pub symbol_lands : (g : SchemaValue) (kind : Kind) (s : State) (c : Symbol) → kind_at g.kinds s.start ≡ kind → place (carried g s c) ≡ symbol_place g kind (place s) c
 symbol_lands g kind s c same = λ i. place_of (end_of g.edges c) (typed_composition (sym (place-op_at s) i) (op_of g.edges c) (same i) (kind_at g.kinds (end_of g.edges c)))
 
 -- a state whose start is of a kind

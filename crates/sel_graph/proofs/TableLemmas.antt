@@ -1,23 +1,26 @@
 -- The levels of rows of steps are the rows of states.
-use Rattle.std.proofs.Common.{◌≡◌, ◌↔◌, ℕ, ◌+◌, ◌*◌, ◌<◌, Bool, true, length, refl, subst, arith}
+use Rattle.std.proofs.Common.{◌≡◌, ◌↔◌, ℕ, ◌+◌, ◌*◌, ◌<◌, Bool, true, List, length, map, slice_index_or, refl, sym, ap, subst, ◌∙◌, arith}
+use Rattle.std.specs.List.{range_with_len}
+use Rattle.std.proofs.lemmas.List.FromFn.{length-map-range_with_len, get_or-map-range_with_len}
 use Rattle.sel_algebra.specs.declared.vocabulary.Kind.{Kind}
 use Rattle.sel_algebra.specs.declared.vocabulary.Kind.TheVariants.{Fixed, Growing}
 use Rattle.sel_algebra.specs.Table.{kind_at}
 use Rattle.schema_graph.specs.Schema.{SchemaValue}
+use Rattle.schema_graph.specs.Symbols.{symbols_of}
 use Rattle.sel_graph.specs.declared.states.State.{State}
 use Rattle.sel_graph.specs.declared.levels.KindLevels.{KindLevels}
-use Rattle.sel_graph.specs.States.{place}
+use Rattle.sel_graph.specs.States.{place, next_places}
 use Rattle.sel_graph.specs.Numbers.{state_at}
 use Rattle.sel_graph.specs.Moves.{ReachValue, IsReach, symbols_most, moves_most}
 use Rattle.sel_graph.specs.Rows.{Leads, Back, HasLevels}
-use Rattle.sel_graph.specs.Steps.{SymbolStep, MoveStep}
+use Rattle.sel_graph.specs.Steps.{next_from, SymbolStep, MoveStep}
 use Rattle.sel_graph.specs.Tables.{levels_of, HasStateRows, HasWalks, HasBefores, HasAfters}
 use Rattle.sel_graph.specs.Tests.{can_reach, comes_from, can_come}
-use Rattle.sel_graph.proofs.PlaceLemmas.{place-below, place-parts}
+use Rattle.sel_graph.proofs.PlaceLemmas.{place-below, place-at, place-parts}
 use Rattle.sel_graph.proofs.WalkLemmas.{reach_run}
 use Rattle.sel_graph.proofs.GoalLemmas.{come_run}
 use Rattle.sel_graph.proofs.RowLemmas.{same_truth, Leads-back}
-use Rattle.sel_graph.proofs.StepLemmas.{run_leads, symbols_simulate, moves_simulate}
+use Rattle.sel_graph.proofs.StepLemmas.{run_leads, symbol_lands, symbols_simulate, moves_simulate}
 
 -- levels of steps that lead where so many letters do
 rows_from_levels : (g : SchemaValue) (most : ℕ) (Steps : Kind → ℕ → ℕ → Type 0) (holds : ℕ → State → ℕ → Bool) (b : KindLevels)
@@ -72,3 +75,13 @@ afters_from_levels r is b fixed growing =
     let leads = run_leads (moves_simulate r is (kind_at r.schema.kinds s.start)) n s p (here, refl) in
     let test = come_run r is n s p in
     (λ h. test.1 (leads.0 h), λ h. leads.1 (test.0 h)))
+
+-- the places after each symbol from a state, by its place and the kind of its start
+pub nexts_at : (g : SchemaValue) (kind : Kind) (nexts : List (List ℕ)) → nexts ≡ map (next_from g kind) (range_with_len 0 (5 * length g.kinds)) → (s : State) → s.at < length g.kinds
+    → kind_at g.kinds s.start ≡ kind → (place s < length nexts) × ((d : List ℕ) → slice_index_or nexts (place s) d ≡ next_places g s)
+nexts_at g kind nexts is s here same =
+    let below = place-below (length g.kinds) s.at s.op here in
+    let from : next_from g kind (place s) ≡ next_places g s = λ i. map (λ c. sym (symbol_lands g kind s c same) i) (symbols_of g.edges (place-at s i)) in (
+      rw (is, length-map-range_with_len (next_from g kind) 0 (5 * length g.kinds)) below,
+      λ d. ap (λ xs. slice_index_or xs (place s) d) is ∙ (get_or-map-range_with_len (next_from g kind) 0 (5 * length g.kinds) (place s) (place s) d below (omega arith) ∙ from),
+    )

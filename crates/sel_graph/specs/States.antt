@@ -5,8 +5,9 @@
 --   came_to t u v          the state of a path from type t to type u with operator v
 --   carried_to g s u v     the state after a further path to type u with operator v
 --   carried g s c          the state after a further symbol
+--   next_places g s        the places after each symbol from where a state has come
 --   state_class g s        the growth class of a state
-use Rattle.std.specs.Prelude.{ℕ, ◌+◌, ◌*◌}
+use Rattle.std.specs.Prelude.{ℕ, ◌+◌, ◌*◌, List, map}
 use Rattle.sel_algebra.specs.declared.vocabulary.Op.{Op}
 use Rattle.sel_algebra.specs.declared.vocabulary.Op.TheVariants.{Equal}
 use Rattle.sel_algebra.specs.declared.vocabulary.Class.{Class}
@@ -15,6 +16,7 @@ use Rattle.sel_algebra.specs.Operators.{column, typed_composition, growth_class}
 use Rattle.sel_algebra.specs.Table.{kind_at}
 use Rattle.schema_graph.specs.Edge.{end_of, op_of}
 use Rattle.schema_graph.specs.Schema.{SchemaValue}
+use Rattle.schema_graph.specs.Symbols.{symbols_of}
 use Rattle.sel_graph.specs.declared.states.State.{State}
 
 -- the number of an operator in their order
@@ -44,6 +46,10 @@ carried_to g s u v = came_to s.start u (typed_composition s.op v (kind_at g.kind
 -- the state after a further symbol
 abbrev pub carried : SchemaValue → State → Symbol → State
 carried g s c = carried_to g s (end_of g.edges c) (op_of g.edges c)
+
+-- the places of the states after each symbol that starts where a state has come, in the order of the symbols
+abbrev pub next_places : SchemaValue → State → List ℕ
+next_places g s = map (λ c. place (carried g s c)) (symbols_of g.edges s.at)
 
 -- the growth class of a state
 abbrev pub state_class : SchemaValue → State → Class

@@ -1,12 +1,13 @@
 -- What a symbol or a move does with a place, which depends on the start by its kind alone.
 --   symbol_place g kind p c     the place to which symbol c carries place p, from a start of a kind
+--   next_from g kind p          the places to which the symbols that start at the type of place p carry it
 --   SymbolStep g kind p q       some symbol of the schema carries p to q
 --   move_place g kind p m       the place to which move m carries place p, from a start of a kind
 --   MoveStep r kind p q         some move carries p to q
 --   PlainStep r kind p q        some plain move does
 --   StarStep r kind p q         some starred move does, where moves may be starred
 --   GoalMet r n p               the state from the start with a number to place p meets the goal with a number
-use Rattle.std.specs.Prelude.{◌≡◌, ℕ, ◌*◌, ◌/◌, ◌%◌, ◌<◌, ◌==◌, ◌&&◌, Bool, true, false, IsTrue, length}
+use Rattle.std.specs.Prelude.{◌≡◌, ℕ, ◌*◌, ◌/◌, ◌%◌, ◌<◌, ◌==◌, ◌&&◌, Bool, true, false, IsTrue, List, length, map}
 use Rattle.sel_algebra.specs.declared.vocabulary.Op.{Op}
 use Rattle.sel_algebra.specs.declared.vocabulary.Kind.{Kind}
 use Rattle.sel_algebra.specs.declared.vocabulary.Symbol.{Symbol}
@@ -14,6 +15,7 @@ use Rattle.sel_algebra.specs.Operators.{typed_composition}
 use Rattle.sel_algebra.specs.Table.{kind_at}
 use Rattle.schema_graph.specs.Edge.{start_of, end_of, op_of}
 use Rattle.schema_graph.specs.Schema.{SchemaValue}
+use Rattle.schema_graph.specs.Symbols.{symbols_of}
 use Rattle.sel_graph.specs.declared.states.Move.{Move}
 use Rattle.sel_graph.specs.States.{place_of}
 use Rattle.sel_graph.specs.Numbers.{op_at, state_at, move_of, goal_at}
@@ -23,6 +25,10 @@ use Rattle.sel_graph.specs.Tests.{leads_at, is_plain, is_move, meets}
 -- the place to which symbol c carries place p, from a start of a kind
 abbrev pub symbol_place : SchemaValue → Kind → ℕ → Symbol → ℕ
 symbol_place g kind p c = place_of (end_of g.edges c) (typed_composition (op_at (p % 5)) (op_of g.edges c) kind (kind_at g.kinds (end_of g.edges c)))
+
+-- the places to which the symbols that start at the type of place p carry it, in their order
+abbrev pub next_from : SchemaValue → Kind → ℕ → List ℕ
+next_from g kind p = map (symbol_place g kind p) (symbols_of g.edges (p / 5))
 
 -- whether symbol c starts at the type of place p and carries it to q
 abbrev pub symbol_steps : SchemaValue → Kind → ℕ → ℕ → Symbol → Bool

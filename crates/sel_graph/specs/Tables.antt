@@ -6,8 +6,10 @@
 --   HasAfters r b              the places to which so many moves lead
 --   HasWords r rows            for each type the plain moves from there
 --   HasGoals r rows            for each start and goal the places at which the goal is met
---   HasTables r w b a rows       all but those of words
-use Rattle.std.specs.Prelude.{◌≡◌, ℕ, ◌+◌, ◌*◌, ◌<◌, ◌≤◌, Bool, IsTrue, List, length}
+--   HasNexts g b               for each place the places after one symbol
+--   HasTables r w b n a rows       all but those of words
+use Rattle.std.specs.Prelude.{◌≡◌, ℕ, ◌+◌, ◌*◌, ◌<◌, ◌≤◌, Bool, IsTrue, List, length, map}
+use Rattle.std.specs.List.{range_with_len}
 use Rattle.sel_algebra.specs.declared.vocabulary.Kind.{Kind}
 use Rattle.sel_algebra.specs.declared.vocabulary.Kind.TheVariants.{Fixed, Growing}
 use Rattle.sel_algebra.specs.Table.{kind_at}
@@ -15,9 +17,10 @@ use Rattle.schema_graph.specs.Schema.{SchemaValue}
 use Rattle.bit_rows.specs.Sets.{NumberSet, has}
 use Rattle.sel_graph.specs.declared.states.State.{State}
 use Rattle.sel_graph.specs.declared.levels.KindLevels.{KindLevels}
+use Rattle.sel_graph.specs.declared.next_places.Nexts.{Nexts}
 use Rattle.sel_graph.specs.States.{place}
 use Rattle.sel_graph.specs.Rows.{HasRows, level_at, row_at}
-use Rattle.sel_graph.specs.Steps.{GoalMet}
+use Rattle.sel_graph.specs.Steps.{next_from, GoalMet}
 use Rattle.sel_graph.specs.Moves.{ReachValue, IsReach, symbols_most, moves_most}
 use Rattle.sel_graph.specs.Numbers.{goal_count}
 use Rattle.sel_graph.specs.Tests.{can_reach, comes_from, can_come, leads_at}
@@ -53,10 +56,15 @@ HasWords r rows = HasRows (length r.schema.kinds) (λ t p. IsTrue (leads_at r t 
 abbrev pub HasGoals : ReachValue → List NumberSet → Type 0
 HasGoals r rows = HasRows (goal_count * length r.schema.kinds) (GoalMet r) rows
 
+-- for each place the places to which the symbols from there lead
+abbrev pub HasNexts : SchemaValue → Nexts → Type 0
+HasNexts g b = (b.fixed.items ≡ map (next_from g Fixed) (range_with_len 0 (5 * length g.kinds))) × (b.growing.items ≡ map (next_from g Growing) (range_with_len 0 (5 * length g.kinds)))
+
 -- all rows but those of words
-pub record HasTables (r : ReachValue) (w b a : KindLevels) (rows : List NumberSet) : Type 0 where
+pub record HasTables (r : ReachValue) (w b : KindLevels) (n : Nexts) (a : KindLevels) (rows : List NumberSet) : Type 0 where
   pub reach : IsReach r
   pub walks : HasWalks r.schema w
   pub befores : HasBefores r.schema b
+  pub nexts : HasNexts r.schema n
   pub afters : HasAfters r a
   pub goals : HasGoals r rows

@@ -10,6 +10,7 @@ pub mod laws;
 mod levels;
 mod move_rows;
 mod moves;
+mod next_places;
 mod places;
 mod reach;
 mod rows;

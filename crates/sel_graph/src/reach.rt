@@ -3,7 +3,7 @@
 ghost use Rattle.std.specs.Prelude.{◌≡◌, ◌↔◌, ℕ, ◌<◌, ◌≤◌, ◌+◌, ◌*◌, length, IsTrue, IfOk};
 ghost use Rattle.bit_rows.specs.Sets.{has};
 ghost use Rattle.sel_algebra.specs.declared.vocabulary.Op.{Op};
-ghost use Rattle.sel_graph.specs.States.{came_to, place_of, carried};
+ghost use Rattle.sel_graph.specs.States.{came_to, place_of, carried, next_places};
 ghost use Rattle.sel_graph.specs.Walks.{HasWalk};
 ghost use Rattle.sel_graph.specs.Moves.{symbols_most, moves_most, second_most, IsReach, IsPlainMove, IsMove, CarriesByMove, Joins, IsFeasible, moved};
 ghost use Rattle.sel_graph.specs.Tests.{leads_at, can_reach, comes_from, can_walk, is_plain, is_move, joins, feasible};
@@ -13,6 +13,7 @@ use crate::goal_rows::{feasible, goal_rows};
 use crate::levels::KindLevels;
 use crate::move_rows::{can_step, joins, move_rows};
 use crate::moves::Moves;
+use crate::next_places::{Nexts, all_nexts, next_places};
 use crate::states::{Goal, Move, State};
 use crate::walk_rows::{states_after, walk_rows};
 use crate::word_rows::word_rows;
@@ -32,6 +33,8 @@ pub struct Reach {
     walks: KindLevels,
     /// The places from which so many symbols lead.
     befores: KindLevels,
+    /// The places to which each symbol leads.
+    nexts: Nexts,
     /// The places to which so many moves lead.
     afters: KindLevels,
     /// For each start and goal the places at which the goal is met.
@@ -46,7 +49,7 @@ impl Model for Reach {
 
     ghost view = { λ r. r.moves };
 
-    ghost invariant = { λ r. HasTables r.moves r.walks r.befores r.afters r.goals };
+    ghost invariant = { λ r. HasTables r.moves r.walks r.befores r.nexts r.afters r.goals };
 }
 
 impl Reach {
@@ -65,6 +68,7 @@ impl Reach {
     {
         let walks = walk_rows(alloc, schema)?;
         let befores = before_rows(alloc, schema)?;
+        let nexts = all_nexts(alloc, schema)?;
         let words = word_rows(alloc, schema, &walks, lengths)?;
         let moves = Moves::of(schema.copy(alloc)?, lengths, stars, words);
         let afters = move_rows(alloc, &moves)?;
@@ -73,6 +77,7 @@ impl Reach {
             moves,
             walks,
             befores,
+            nexts,
             afters,
             goals,
         })
@@ -187,6 +192,15 @@ impl Reach {
     {
         let schema = self.moves.schema();
         state.carried_to(schema, schema.end_of(symbol), schema.op_of(symbol))
+    }
+
+    /// The places of the states to which the symbols that start where a state has come carry it, in the order of the symbols.
+    pub fn next_places(&self, from: State) -> &[u16]
+        requires start { from.start < length self.now.schema.kinds }
+        requires here { from.at < length self.now.schema.kinds }
+        ensures { result.now ≡ next_places self.now.schema from }
+    {
+        next_places(&self.nexts, self.moves.schema(), from)
     }
 
     /// Whether one move carries a state to a state.

@@ -70,7 +70,7 @@ fn add_symbol(row: &mut BitRow<10>, schema: &Schema, kind: Kind, place: u32, sym
 }
 
 /// The place to which a symbol carries a place, from a start of a kind.
-fn symbol_place(schema: &Schema, kind: Kind, place: u32, symbol: Symbol) -> u32
+pub(crate) fn symbol_place(schema: &Schema, kind: Kind, place: u32, symbol: Symbol) -> u32
     requires { symbol.edge < length schema.now.edges }
     ensures value { result ≡ symbol_place schema.now kind place symbol }
     ensures within { result < 5 * length schema.now.kinds }

@@ -1,5 +1,5 @@
 -- Whether there is a pick, and picks of symbols by their numbers.
-use Rattle.std.proofs.Common.{◌≡◌, ◌↔◌, ℕ, zero, suc, ◌+◌, ◌-◌, ◌*◌, ◌/◌, ◌%◌, ◌^◌, ◌<◌, ◌≤◌, ◌==◌, nat_lt, Bool, true, false, not, ◌&&◌, ◌||◌, Option, Some, None, List, [], ◌∷◌, length, filter, refl, sym, ap, subst, ◌∙◌, inl, inr, arith, rules}
+use Rattle.std.proofs.Common.{◌≡◌, ◌↔◌, ℕ, zero, suc, ◌+◌, ◌-◌, ◌*◌, ◌/◌, ◌%◌, ◌^◌, ◌<◌, ◌≤◌, ◌==◌, nat_lt, Bool, true, false, not, ◌&&◌, ◌||◌, Option, Some, None, List, [], ◌∷◌, length, filter, slice_index_or, refl, sym, ap, subst, ◌∙◌, inl, inr, arith, rules}
 use Rattle.std.specs.List.{list_any, range_with_len, All}
 use Rattle.std.proofs.lemmas.Option.{slice_get_cases}
 use Rattle.seeded_draw.specs.Draw.{pick_of}
@@ -8,7 +8,10 @@ use Rattle.std.proofs.lemmas.Bool.{cases_Bool, true≢false, lt-ltb, le-ltb, ltb
 use Rattle.std.proofs.lemmas.List.Sums.{length-filter, count_by-le-length}
 use Rattle.std.proofs.lemmas.List.FromFn.{length-range_with_len}
 use Rattle.sel_algebra.specs.declared.vocabulary.Symbol.{Symbol}
-use Rattle.schema_graph.specs.Schema.{SchemaValue}
+use Rattle.std.proofs.lemmas.List.{get_or-map}
+use Rattle.schema_graph.specs.Edge.{end_of}
+use Rattle.schema_graph.specs.Schema.{SchemaValue, IsSchema}
+use Rattle.schema_graph.proofs.SymbolLemmas.{symbols_of-edge}
 use Rattle.schema_graph.specs.Symbols.{symbols_of}
 use Rattle.candidates.specs.Picked.{picked, numbers_that}
 use Rattle.candidates.proofs.PickLemmas.{none_passes, filter_none, picked_at, picked_is_none, picked_numbered, at_slice_get}
@@ -18,10 +21,10 @@ use Rattle.sel_graph.specs.declared.states.State.{State}
 use Rattle.sel_graph.specs.declared.states.Move.{Move}
 use Rattle.sel_graph.specs.Numbers.{op_at, move_of, moves_of}
 use Rattle.sel_graph.specs.Moves.{ReachValue}
-use Rattle.sel_graph.specs.States.{place, came_to, carried}
+use Rattle.sel_graph.specs.States.{place, came_to, carried, next_places}
 use Rattle.sel_graph.specs.Tests.{leads_at, comes_from, is_plain, is_move}
-use Rattle.sel_graph.proofs.PlaceLemmas.{place-parts, same_state}
-use Rattle.sel_graph.proofs.WalkLemmas.{comes_walk}
+use Rattle.sel_graph.proofs.PlaceLemmas.{place-below, place-parts, same_state}
+use Rattle.sel_graph.proofs.WalkLemmas.{end_of-below, comes_walk}
 use Rattle.sel_graph.proofs.MoveLemmas.{moves_of-numbered}
 use Rattle.sel_graph.proofs.RowLemmas.{same_truth}
 use Rattle.walk_pick.specs.LiveRows.{live_step}
@@ -47,6 +50,16 @@ pub kept_walk : (g : SchemaValue) (s to : State) (n : ℕ) (c : Symbol) → to.s
 kept_walk g s to n c start =
     let end : came_to s.start to.at to.op ≡ to = same_state (came_to s.start to.at to.op) to (sym start) refl refl in
     ap (λ x. comes_from g n x (place (carried g s c))) end ∙ comes_walk g n (carried g s c) to start
+
+-- the place after a symbol, by its number
+pub next_symbol : (g : SchemaValue) (s : State) (i d : ℕ) → i < length (symbols_of g.edges s.at) → slice_index_or (next_places g s) i d ≡ place (carried g s (nth_symbol g s.at i))
+next_symbol g s i d inside = get_or-map (λ c. place (carried g s c)) (symbols_of g.edges s.at) i (record { edge = 0; back = false }) d inside
+
+-- is the place of a type of the schema
+pub next_inside : (g : SchemaValue) → IsSchema g → (s : State) (i : ℕ) → i < length (symbols_of g.edges s.at) → place (carried g s (nth_symbol g s.at i)) < 5 * length g.kinds
+next_inside g is s i inside =
+    let c = nth_symbol g s.at i in
+    place-below (length g.kinds) (end_of g.edges c) (carried g s c).op (end_of-below g is c (symbols_of-edge g.edges s.at i _ inside))
 
 -- what a word picks is none just where there is none
 pub none_is_none : {X : Type 0} (w : ℕ) (xs : List X) (o : Option X) → w < 2 ^ 64 → o ≡ picked w xs → IsNone o ↔ (xs ≡ [])

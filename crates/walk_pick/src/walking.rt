@@ -7,7 +7,7 @@ ghost use Rattle.schema_graph.specs.Edge.{start_of};
 ghost use Rattle.schema_graph.specs.Schema.{IsSchema};
 ghost use Rattle.schema_graph.specs.Symbols.{symbols_of};
 ghost use Rattle.sel_graph.specs.Moves.{symbols_most};
-ghost use Rattle.sel_graph.specs.States.{came_to};
+ghost use Rattle.sel_graph.specs.States.{came_to, next_places};
 ghost use Rattle.sel_graph.specs.Tests.{comes_from};
 ghost use Rattle.walk_pick.specs.Candidates.{has_length, length_candidates, keeps_walk, nth_symbol, symbol_candidates};
 
@@ -54,17 +54,20 @@ impl<'a> Candidates for Lengths<'a> {
 /// The symbols from a state after which so many further symbols can lead to a state.
 #[derive(Drop)]
 struct Symbols<'a> {
-    reach: &'a Reach,
     schema: &'a Schema,
     at: State,
     to: State,
     left: u8,
+    /// How many symbols start there.
+    count: u32,
+    /// The places of the states after each of them.
+    next: &'a [u16],
     /// The places from which so many symbols lead to where `to` has come, from the start of `at`.
     before: &'a BitRow<10>,
-    ghost same: { reach.now.schema ≡ schema.now },
-    ghost start: { at.start < length schema.now.kinds },
-    ghost here: { at.at < length schema.now.kinds },
-    ghost places: { (p : ℕ) → has before.now p ≡ comes_from schema.now left (came_to at.start to.at to.op) p },
+    ghost known: { IsSchema schema.now },
+    ghost count_is: { count ≡ length (symbols_of schema.now.edges at.at) },
+    ghost next_are: { next.now ≡ next_places schema.now at },
+    ghost before_are: { (p : ℕ) → has before.now p ≡ comes_from schema.now left (came_to at.start to.at to.op) p },
 }
 
 impl<'a> Candidates for Symbols<'a> {
@@ -73,13 +76,12 @@ impl<'a> Candidates for Symbols<'a> {
     ghost range = { λ s. length (symbols_of s.schema.now.edges s.at.at) };
 
     fn numbers(&self) -> u32 {
-        self.schema.symbol_count(self.at.at)
+        self.count
     }
 
     fn is_live(&self, i: u32) -> bool {
-        let symbol = nth_symbol(self.schema, self.at.at, i);
-        let after = self.reach.carried(self.at, symbol);
-        self.to.start == self.at.start && self.before.get(after.place())
+        let after = self.next[i as usize] as u32;
+        self.to.start == self.at.start && self.before.get(after)
     }
 }
 
@@ -133,11 +135,12 @@ pub fn pick_symbol(
         op: to.op,
     };
     let symbols = Symbols {
-        reach,
         schema,
         at,
         to,
         left,
+        count: schema.symbol_count(at.at),
+        next: reach.next_places(at),
         before: reach.states_before(end, left),
     };
     match pick_among(&symbols, w) {
@@ -153,7 +156,6 @@ fn nth_symbol(schema: &Schema, t: u8, i: u32) -> Symbol
     ensures symbol { result ≡ nth_symbol schema.now t i }
     ensures edge { result.edge < length schema.now.edges }
     ensures start { start_of schema.now.edges result ≡ t }
-    ensures schema { IsSchema schema.now }
 {
     schema.symbol_from(t, i)
 }
