@@ -64,6 +64,7 @@ impl<'a> Listed<'a> {
     }
 
     /// The term with a number.
+    #[inline(always)]
     pub(crate) fn get(&self, n: u32) -> Term
         requires { n < length self.now }
         ensures { slice_get self.now n ≡ Some result }

@@ -75,6 +75,7 @@ impl<'a> TermStore<'a> {
     }
 
     /// The term with a number.
+    #[inline(always)]
     pub fn get(&self, id: TermId) -> Term
         requires { id < length self.now }
         ensures { slice_get self.now id ≡ Some result }
@@ -132,6 +133,7 @@ impl<'a> Terms<'a> {
     }
 
     /// The term with a number.
+    #[inline(always)]
     fn get(&self, n: u32) -> Term
         requires { n < length (terms_in self.now) }
         ensures { slice_get (terms_in self.now) n ≡ Some result }

@@ -2,7 +2,8 @@
 
 use crate::samples::{digit, read};
 use gm_text::Arena;
-use query_terms::{Query, Term, TermId, TermStore};
+use query_terms::{Heads, Query, QueryBuilder, Term, TermId, TermStore};
+use sel_algebra::{Class, Shape, Symbol};
 use std::alloc::{AllocError, Global};
 use std::test::Fail;
 
@@ -147,5 +148,38 @@ fn a_term_is_put_once(rt: HostRuntime) -> Result<(), Fail> {
         (first.number(), again.number(), option.number(), store.len()),
         (0, 0, 1, 2)
     );
+    Ok(())
+}
+
+/// The terms of a finished query, ` a 0/0 1*`: the word has one symbol twice, and may be repeated.
+fn finished<'a>(alloc: Global, arena: &'a Arena) -> Result<TermStore<'a>, AllocError> {
+    let symbol = Symbol {
+        edge: 0,
+        back: false,
+    };
+    let heads = Heads {
+        count: 2,
+        vars: [0, 1, 0, 0],
+    };
+    let mut builder = QueryBuilder::new(alloc, arena, b"a")?;
+    builder.symbol(symbol)?;
+    builder.symbol(symbol)?;
+    builder.end_word()?;
+    builder.end_conjunct(0, 1, true)?;
+    builder.end_rule(heads)?;
+    let query = builder.finish(Shape::Chain, Some(Class::Linear), Some(Class::Linear))?;
+    Ok(query.terms)
+}
+
+#[test]
+fn a_finished_store_goes_on(rt: HostRuntime) -> Result<(), Fail> {
+    let alloc = rt.alloc();
+    let arena = Arena::new(alloc);
+    let mut store = finished(alloc, &arena)?;
+    assert_eq!(rt; store.len(), 3);
+    let again = store.put(Term::Seq(store.id(0), store.id(0)))?;
+    assert_eq!(rt; store.len(), 3);
+    let option = store.put(Term::Opt(again))?;
+    assert_eq!(rt; (again.number(), option.number(), store.len()), (1, 3, 4));
     Ok(())
 }
