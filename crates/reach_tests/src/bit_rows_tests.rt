@@ -10,11 +10,17 @@ fn alone(n: u32) -> BitRow<5> {
     row
 }
 
-#[test]
-fn rows_of_bits(rt: HostRuntime) -> Result<(), Fail> {
-    let mut row = BitRow::<5>::empty();
+/// The row with the least and the greatest number alone.
+fn both_ends() -> BitRow<5> {
+    let mut row = BitRow::empty();
     row.set(0);
     row.set(159);
+    row
+}
+
+#[test]
+fn numbers_of_a_row(rt: HostRuntime) {
+    let row = both_ends();
     for (n, is) in [
         (0, true),
         (1, false),
@@ -27,9 +33,19 @@ fn rows_of_bits(rt: HostRuntime) -> Result<(), Fail> {
             assert_eq!(rt; row.get(n), is, "{n}");
         }
     }
+}
+
+#[test]
+fn rows_that_meet(rt: HostRuntime) {
+    let row = both_ends();
     for (n, meets) in [(0, true), (158, false), (159, true)] {
         assert_eq!(rt; row.meets(&alone(n)), meets, "{n}");
     }
+}
+
+#[test]
+fn the_next_number(rt: HostRuntime) {
+    let row = both_ends();
     for (n, next) in [
         (0, Some(0)),
         (1, Some(159)),
@@ -39,13 +55,17 @@ fn rows_of_bits(rt: HostRuntime) -> Result<(), Fail> {
     ] {
         assert_eq!(rt; row.next(n), next, "{n}");
     }
+}
+
+#[test]
+fn rows_of_either(rt: HostRuntime) {
+    let mut row = both_ends();
     row.or_row(&alone(31));
     row.or_row(&alone(32));
     let mut numbers = row.numbers();
     for number in [Some(0), Some(31), Some(32), Some(159), None] {
         assert_eq!(rt; numbers.next(), number);
     }
-    Ok(())
 }
 
 #[test]

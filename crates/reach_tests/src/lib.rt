@@ -6,6 +6,8 @@
 #[cfg(test)]
 mod bit_rows_tests;
 #[cfg(test)]
+mod samples;
+#[cfg(test)]
 mod schema_graph_tests;
 #[cfg(test)]
 mod sel_algebra_tests;

@@ -1,6 +1,6 @@
 ghost use Rattle.std.specs.Prelude.{◌≡◌, ◌<◌, length, IfOk};
 
-use sel_algebra::Class::{Constant, Linear, Quadratic};
+use sel_algebra::Class::{self, Constant, Linear, Quadratic};
 use sel_algebra::Kind::{self, Fixed, Growing};
 use sel_algebra::Op::{self, Cross, Diamond, Equal, Greater, Less};
 use sel_algebra::{Matrix, class_of, compose, join, mirror, normal, star};
@@ -45,8 +45,11 @@ fn repetitions_and_mirrors(rt: HostRuntime) {
     }
 }
 
+/// The entries of a matrix over two types, row by row.
+type Entries = [Option<Op>; 4];
+
 /// The matrix over two types of these kinds with the normal forms of these entries, row by row.
-fn matrix(alloc: Global, kinds: &[Kind], entries: [Option<Op>; 4]) -> Result<Matrix, AllocError>
+fn matrix(alloc: Global, kinds: &[Kind], entries: Entries) -> Result<Matrix, AllocError>
     requires { length kinds.now ≡ 2 }
     ensures { IfOk result (λ matrix. matrix.kinds ≡ kinds.now) }
 {
@@ -71,7 +74,7 @@ fn set_if(matrix: &mut Matrix, from: u8, to: u8, op: Option<Op>)
 }
 
 /// The entries of a matrix over two types, row by row, and `None` where it is over other types.
-fn entries(matrix: &Matrix) -> Option<[Option<Op>; 4]> {
+fn entries(matrix: &Matrix) -> Option<Entries> {
     if matrix.kinds().len() != 2 {
         return None;
     }
@@ -108,46 +111,61 @@ fn closures(rt: HostRuntime) -> Result<(), Fail> {
     Ok(())
 }
 
+/// The product of two matrices over a fixed and a growing type, its greatest class, and the union of the two.
+fn product_and_union(
+    alloc: Global,
+    first: Entries,
+    second: Entries,
+) -> Result<(Option<Entries>, Option<Class>, Option<Entries>), AllocError> {
+    let kinds = [Fixed, Growing];
+    let first = matrix(alloc, &kinds, first)?;
+    let second = matrix(alloc, &kinds, second)?;
+    let path = first.times(alloc, &second)?;
+    let union = first.plus(alloc, &second)?;
+    Ok((entries(&path), path.greatest_class(), entries(&union)))
+}
+
 #[test]
 fn products_and_joins(rt: HostRuntime) -> Result<(), Fail> {
-    let alloc = rt.alloc();
-    let kinds = [Fixed, Growing];
     let along = [None, Some(Less), None, Some(Equal)];
     let back = [None, None, Some(Greater), Some(Equal)];
     let none = [None, None, None, None];
-    for (first, second, product, sum, class) in [
+    for (first, second, product, class, sum) in [
         (
             back,
             along,
             [None, None, None, Some(Cross)],
-            [None, Some(Less), Some(Greater), Some(Equal)],
             Some(Quadratic),
+            [None, Some(Less), Some(Greater), Some(Equal)],
         ),
         (
             along,
             back,
             [Some(Equal), Some(Less), Some(Greater), Some(Equal)],
-            [None, Some(Less), Some(Greater), Some(Equal)],
             Some(Linear),
+            [None, Some(Less), Some(Greater), Some(Equal)],
         ),
-        (none, along, none, along, None),
+        (none, along, none, None, along),
     ] {
-        let first = matrix(alloc, &kinds, first)?;
-        let second = matrix(alloc, &kinds, second)?;
-        let path = first.times(alloc, &second)?;
         assert_eq!(rt;
-            (entries(&path), path.greatest_class()),
-            (Some(product), class)
+            product_and_union(rt.alloc(), first, second)?,
+            (Some(product), class, Some(sum))
         );
-        assert_eq!(rt; entries(&first.plus(alloc, &second)?), Some(sum));
     }
     Ok(())
+}
+
+/// The matrix over 64 growing types with no entries.
+fn zero_of_sixty_four(alloc: Global) -> Result<Matrix, AllocError>
+    ensures { IfOk result (λ matrix. length matrix.kinds ≡ 64) }
+{
+    Matrix::zero(alloc, &[Growing; 64])
 }
 
 #[test]
 fn sixty_four_types(rt: HostRuntime) -> Result<(), Fail> {
     let alloc = rt.alloc();
-    let mut steps = Matrix::zero(alloc, &[Growing; 64])?;
+    let mut steps = zero_of_sixty_four(alloc)?;
     steps.set(0, 63, Diamond);
     steps.set(63, 0, Less);
     let closure = steps.closure(alloc)?;

@@ -1,65 +1,19 @@
-ghost use Rattle.std.specs.Prelude.{◌≡◌, ◌≤◌, length, IfOk};
+ghost use Rattle.std.specs.Prelude.{◌≤◌};
 ghost use Rattle.sel_graph.specs.Moves.{symbols_most};
 
+use crate::samples::{one_type, reach_of, two_types};
 use gm_config::Range;
-use schema_graph::{Schema, SchemaEdge};
 use sel_algebra::Class::{self, Constant, Linear, Quadratic};
-use sel_algebra::Kind::{Fixed, Growing};
 use sel_algebra::Op::{Cross, Equal, Less};
 use sel_algebra::Shape::{self, Chain, Cycle, Star, StarChain};
 use sel_algebra::Symbol;
-use sel_graph::{Goal, Reach, State};
+use sel_graph::{Goal, State};
 use std::alloc::{AllocError, Global};
 use std::test::Fail;
 use walk_pick::*;
 
 /// The least word, one of the middle, and the greatest.
 const WORDS: [u64; 3] = [0, 1 << 63, u64::MAX];
-
-/// Type 0 is fixed and type 1 is growing. One edge goes from 0 to 1.
-fn two_types(alloc: Global) -> Result<Schema, AllocError>
-    ensures { IfOk result (λ schema. length schema.kinds ≡ 2) }
-{
-    let edge = SchemaEdge {
-        source: 0,
-        label: 0,
-        target: 1,
-        op: Less,
-    };
-    Schema::new(
-        alloc,
-        vec![in alloc; Fixed, Growing]?,
-        vec![in alloc; edge]?,
-    )
-}
-
-/// One growing type, and one edge from it to itself.
-fn one_type(alloc: Global) -> Result<Schema, AllocError>
-    ensures { IfOk result (λ schema. length schema.kinds ≡ 1) }
-{
-    let edge = SchemaEdge {
-        source: 0,
-        label: 0,
-        target: 0,
-        op: Equal,
-    };
-    Schema::new(alloc, vec![in alloc; Growing]?, vec![in alloc; edge]?)
-}
-
-/// What words of these lengths reach.
-fn reach_of(
-    alloc: Global,
-    schema: &Schema,
-    least: u8,
-    most: u8,
-    stars: bool,
-) -> Result<Reach, AllocError>
-    requires some { 1 ≤ least }
-    requires few { most ≤ symbols_most }
-    ensures { IfOk result (λ reach. reach.schema ≡ schema.now) }
-{
-    Reach::build(alloc, schema, Range { least, most }, stars)
-}
 
 /// The number of conjuncts that a word picks from 1 to `most`, by words of one symbol or by words of two.
 fn count_of(
