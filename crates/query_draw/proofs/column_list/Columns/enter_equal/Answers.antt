@@ -1,4 +1,4 @@
-use Rattle.std.proofs.Common.{◌≡◌, ◌+◌, ◌<◌, length, slice_set, refl, sym, subst, ◌∙◌, arith}
+use Rattle.std.proofs.Common.{◌≡◌, ◌+◌, ◌<◌, length, refl, sym, subst, arith}
 use Rattle.sel_algebra.specs.Table.{one_at}
 use Rattle.query_draw.specs.Columns.{Tells, FirstColumns}
 use Rattle.query_draw.proofs.ColumnLemmas.{Tells-equal, FirstColumns-none, FirstColumns-more}
