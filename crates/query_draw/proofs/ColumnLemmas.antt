@@ -4,7 +4,9 @@ use Rattle.std.specs.Int.{bit_at, bit_not, w64}
 use Rattle.std.specs.Int.Bits.{or_zero_l}
 use Rattle.std.specs.Int.RustNames.{bit_and, bit_or}
 use Rattle.std.proofs.lemmas.Bool.Decides.{eqb_tells}
-use Rattle.std.proofs.lemmas.List.{ext_get_or, get_or-set_same, get_or-set_other, length-set}
+use Rattle.std.proofs.lemmas.List.{ext_get_or, get_or-set_same, get_or-set_other, length-set, length-map}
+use Rattle.std.proofs.lemmas.List.FromFn.{length-range_with_len, get_or-map-range_with_len}
+use Rattle.std.specs.List.{range_with_len}
 use Rattle.std.proofs.lemmas.Nat.{div-add-mod'}
 use Rattle.std.proofs.lemmas.Nat.Bits.{bit_at-zero, bit_at-lt, bit_at_set_same, bit_at_set_other, bit_at_not}
 use Rattle.bit_rows.proofs.WordLemmas.{either_bit, both_bit}
@@ -17,7 +19,7 @@ use Rattle.sel_algebra.specs.Entries.{joined, composed, IsNormalEntry}
 use Rattle.sel_algebra.specs.Table.{types_most, Table, kind_at, entry, EachPair, laid_out, table_of, IsMatrix, SetsEntry, zero_of, one_at}
 use Rattle.sel_algebra.proofs.TableLemmas.{row-lt, column-lt, entry-table_of, whole-table_of, IsMatrix-zero_of}
 use Rattle.query_draw.specs.declared.columns.Column.{Column}
-use Rattle.query_draw.specs.Columns.{has, is_growing, is_at_least, Tells, no_column, column_at, FirstColumns, AreColumns, equal_column, joined_column, followed_column, normal_column, AreJoined, told, told_at, AreNormal, EntersColumn}
+use Rattle.query_draw.specs.Columns.{has, is_growing, is_at_least, Tells, no_column, no_entry, column_at, FirstColumns, AreColumns, shown, equal_column, joined_column, followed_column, normal_column, AreJoined, told, told_at, AreNormal, EntersColumn}
 
 -- ---- sets
 
@@ -184,6 +186,49 @@ AreColumns-same n cs f g same are = record { whole = are.whole; each = λ i j p 
 -- the entries of a table
 pub AreColumns-table_of : (kinds : List Kind) (cs : List Column) (f : ℕ → ℕ → Option Op) → AreColumns (length kinds) cs f → AreColumns (length kinds) cs (entry (table_of kinds f))
 AreColumns-table_of kinds cs f are = AreColumns-same (length kinds) cs f (entry (table_of kinds f)) (λ i j p q. sym (entry-table_of kinds f i j p q)) are
+
+-- ---- the columns to the types of a set
+
+pub shown-long : (filled : ℕ) (cs : List Column) → length (shown filled cs) ≡ length cs
+shown-long filled cs = length-map (range_with_len 0 (length cs)) (λ j. if has filled j then column_at cs j else no_column) ∙ length-range_with_len 0 (length cs)
+
+pub shown-at : (filled : ℕ) (cs : List Column) (j : ℕ) → j < length cs → column_at (shown filled cs) j ≡ (if has filled j then column_at cs j else no_column)
+shown-at filled cs j lt = get_or-map-range_with_len (λ k. if has filled k then column_at cs k else no_column) 0 (length cs) j j no_column lt (omega arith)
+
+-- as many are shown as there are
+pub shown-within : (filled : ℕ) (cs view : List Column) (t : ℕ) → shown filled cs ≡ view → t < length view → t < length cs
+shown-within filled cs view t is lt = subst (λ n. t < n) (sym (ap length is) ∙ shown-long filled cs) lt
+
+-- what is shown is what is stored, or nothing
+pub shown-is : (filled : ℕ) (cs view : List Column) (t : ℕ) (c : Column) (b : Bool) → shown filled cs ≡ view → t < length cs → has filled t ≡ b → (if b then column_at cs t else no_column) ≡ c → c ≡ column_at view t
+shown-is filled cs view t c b is lt bit here = sym here ∙ (ap (λ x. if x then column_at cs t else no_column) (sym bit) ∙ (sym (shown-at filled cs t lt) ∙ ap (λ xs. column_at xs t) is))
+
+-- with no type in the set there is no entry
+pub AreColumns-shown : (cs : List Column) → AreColumns (length cs) (shown 0 cs) no_entry
+AreColumns-shown cs = record {
+  whole = shown-long 0 cs;
+  each = λ i j p q. subst (λ d. Tells d i None) (sym (shown-at 0 cs j q ∙ ap (λ b. if b then column_at cs j else no_column) (has_none j))) (Tells-none i);
+}
+
+-- a further type in the set, with its column
+pub shown-put : (filled : ℕ) (cs : List Column) (t : ℕ) (c : Column) → t < length cs → length cs ≤ 64 → shown (bit_or filled (1 * 2 ^ t % 2 ^ 64)) (slice_set cs t c) ≡ slice_set (shown filled cs) t c
+shown-put filled cs t c lt few =
+    let set = bit_or filled (1 * 2 ^ t % 2 ^ 64) in
+    let more = slice_set cs t c in
+    let long = length-set cs t c in
+    let bit : t < 64 = omega (arith, lt, few) in
+    ext_get_or no_column (shown set more) (slice_set (shown filled cs) t c) (shown-long set more ∙ (long ∙ sym (length-set (shown filled cs) t c ∙ shown-long filled cs))) (λ j in_shown.
+    let within : j < length cs = rw (shown-long set more ∙ long) at in_shown in
+    let here = shown-at set more j (rw long within) in
+    elim (eqb_tells j t) [
+      | inl hit ↦
+          subst (λ k. column_at (shown set more) k ≡ column_at (slice_set (shown filled cs) t c) k) (sym hit.1)
+          (shown-at set more t (rw long lt) ∙ (ap (λ b. if b then column_at more t else no_column) (has_same filled t bit) ∙ (get_or-set_same cs t c no_column lt
+          ∙ sym (get_or-set_same (shown filled cs) t c no_column (rw (shown-long filled cs) lt)))))
+      | inr miss ↦
+          here ∙ ((λ k. if has_other filled t j bit miss.1 k then get_or-set_other cs t j c no_column miss.1 k else no_column)
+          ∙ (sym (shown-at filled cs j within) ∙ sym (get_or-set_other (shown filled cs) t j c no_column miss.1)))
+    ])
 
 -- ---- joins
 

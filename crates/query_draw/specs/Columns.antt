@@ -6,6 +6,7 @@
 --   Tells c i e                   a column has the entry e from type i
 --   FirstColumns n m cs f         the first m of n columns have the entries f
 --   AreColumns n cs f             so has each of them
+--   shown filled cs               the columns to the types of a set, and no entries to others
 --   equal_column t                `Equal` from one type
 --   joined_column a b             the joins of the entries of two columns
 --   followed_column c op          the compositions of the entries with an operator
@@ -17,7 +18,6 @@
 --   edge_column g growing s a     the paths of a matrix and then along the edge of a symbol
 --   JoinsEdge, JoinsSymbol        they are joined with a matrix, and a matrix is the product with that of a symbol
 --   labelled edges label          the numbers of the edges with a label
---   IsWork g w                    what matrices of words are worked out with
 use Rattle.std.specs.Prelude.{◌≡◌, ℕ, ◌<◌, ◌≤◌, ◌==◌, ◌*◌, ◌%◌, ◌^◌, Bool, true, false, if◌then◌else◌, Option, Some, None, List, [], ◌∷◌, length, map, filter, slice_index_or, slice_set}
 use Rattle.std.specs.List.{range_with_len}
 use Rattle.std.specs.Int.{bit_at, bit_not, w64}
@@ -29,13 +29,11 @@ use Rattle.sel_algebra.specs.declared.vocabulary.Kind.TheVariants.{Fixed, Growin
 use Rattle.sel_algebra.specs.declared.vocabulary.Symbol.{Symbol}
 use Rattle.sel_algebra.specs.Operators.{at_most}
 use Rattle.sel_algebra.specs.Entries.{IsNormalEntry}
-use Rattle.sel_algebra.specs.Table.{types_most, Table, kind_at, entry, EachPair, times_of}
-use Rattle.gm_config.specs.Limits.{labels_most}
+use Rattle.sel_algebra.specs.Table.{Table, kind_at, entry, EachPair, times_of}
 use Rattle.schema_graph.specs.declared.edge.SchemaEdge.{SchemaEdge}
 use Rattle.schema_graph.specs.Edge.{edge_at, start_of, end_of, op_of}
 use Rattle.schema_graph.specs.Schema.{SchemaValue}
 use Rattle.query_draw.specs.declared.columns.Column.{Column}
-use Rattle.query_draw.specs.declared.along.Work.{Work}
 use Rattle.query_draw.specs.Wide.{symbol_matrix}
 
 -- whether a number is in a set: whether its bit is set
@@ -83,6 +81,10 @@ pub record FirstColumns (n m : ℕ) (cs : List Column) (f : ℕ → ℕ → Opti
 -- each of n columns has the entries f
 abbrev pub AreColumns : ℕ → List Column → (ℕ → ℕ → Option Op) → Type 0
 AreColumns n = FirstColumns n n
+
+-- the columns to the types of a set, and no entries to others
+abbrev pub shown : ℕ → List Column → List Column
+shown filled cs = map (λ j. if has filled j then column_at cs j else no_column) (range_with_len 0 (length cs))
 
 -- the column with `Equal` from one type
 abbrev pub equal_column : ℕ → Column
@@ -166,12 +168,3 @@ labelled edges label = filter (has_label edges label) (range_with_len 0 (length 
 -- the number of an edge, if it is wanted
 abbrev pub edge_if : Bool → ℕ → List ℕ
 edge_if wanted edge = if wanted then edge ∷ [] else []
-
--- what matrices of words are worked out with
-pub record IsWork (g : SchemaValue) (w : Work) : Type 0 where
-  pub few : length g.kinds ≤ types_most
-  pub growing : AreGrowing g.kinds w.growing
-  pub edges : w.edges.items ≡ map (labelled g.edges) (range_with_len 0 labels_most)
-  pub word : length w.word.items ≡ length g.kinds
-  pub longer : length w.longer.items ≡ length g.kinds
-  pub union : length w.union.items ≡ length g.kinds

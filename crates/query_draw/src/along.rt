@@ -8,12 +8,11 @@ ghost use Rattle.schema_graph.specs.Schema.{IsSchema};
 ghost use Rattle.gm_config.specs.Limits.{labels_most};
 ghost use Rattle.query_terms.specs.Values.{has_edge};
 ghost use Rattle.query_draw.specs.Wide.{word_matrix};
-ghost use Rattle.query_draw.specs.Columns.{labelled, edge_if, IsWork, AreGrowing, AreColumns, JoinsEdge, JoinsSymbol};
+ghost use Rattle.query_draw.specs.Columns.{labelled, edge_if, AreGrowing, AreColumns, JoinsEdge, JoinsSymbol};
+ghost use Rattle.query_draw.specs.Work.{IsWork};
 
-use crate::columns::{
-    Column, clear, enter_equal, followed_column, growing_types, joined_column, no_column,
-    normal_column,
-};
+use crate::column_list::Columns;
+use crate::columns::{followed_column, growing_types, joined_column, normal_column};
 use gm_text::Items;
 use schema_graph::{LABELS_MOST, Schema};
 use sel_algebra::Symbol;
@@ -28,11 +27,11 @@ pub(crate) struct Work {
     /// For each label the numbers of its edges.
     pub edges: Vec<Items<u8>>,
     /// The matrix of a word.
-    pub word: Vec<Column>,
+    pub word: Columns,
     /// The matrix of a word with a further symbol.
-    pub longer: Vec<Column>,
+    pub longer: Columns,
     /// The join of the matrices of words.
-    pub union: Vec<Column>,
+    pub union: Columns,
 }
 
 impl Work {
@@ -44,9 +43,9 @@ impl Work {
         Ok(Work {
             growing: growing_types(schema.kinds()),
             edges: edge_lists(alloc, schema)?,
-            word: vec![in alloc; no_column(); count]?,
-            longer: vec![in alloc; no_column(); count]?,
-            union: vec![in alloc; no_column(); count]?,
+            word: Columns::new(alloc, count)?,
+            longer: Columns::new(alloc, count)?,
+            union: Columns::new(alloc, count)?,
         })
     }
 }
@@ -87,11 +86,11 @@ fn push_if(wanted: bool, edges: &mut Vec<u8>, edge: u8) -> Result<(), AllocError
 pub(crate) fn follow_word(schema: &Schema, word: &[Symbol], work: &mut Work)
     requires edges { list_all (has_edge (length schema.now.edges)) word.now ≡ true }
     requires work { IsWork schema.now work.old }
-    ensures word { AreColumns (length schema.now.kinds) work.new.word.items (entry (word_matrix schema.now word.now)) }
+    ensures word { AreColumns (length schema.now.kinds) work.new.word (entry (word_matrix schema.now word.now)) }
     ensures work { IsWork schema.now work.new }
     ensures union { work.new.union ≡ work.old.union }
 {
-    enter_equal(work.word.as_mut_slice());
+    work.word.enter_equal();
     for symbol in word {
         let edges = work.edges[schema.label_of(*symbol) as usize].as_slice();
         follow_symbol(
@@ -99,8 +98,8 @@ pub(crate) fn follow_word(schema: &Schema, word: &[Symbol], work: &mut Work)
             work.growing,
             edges,
             *symbol,
-            work.word.as_slice(),
-            work.longer.as_mut_slice(),
+            &work.word,
+            &mut work.longer,
         );
         mem::swap(&mut work.word, &mut work.longer);
     }
@@ -112,8 +111,8 @@ fn follow_symbol(
     growing: u64,
     edges: &[u8],
     symbol: Symbol,
-    matrix: &[Column],
-    product: &mut [Column],
+    matrix: &Columns,
+    product: &mut Columns,
 )
     requires schema { IsSchema schema.now }
     requires growing { AreGrowing schema.now.kinds growing }
@@ -123,7 +122,7 @@ fn follow_symbol(
     ensures whole { length product.new ≡ length schema.now.kinds }
     ensures product { JoinsSymbol schema.now symbol matrix.now product.new }
 {
-    clear(product);
+    product.clear();
     for edge in edges {
         let next = Symbol {
             edge: *edge,
@@ -134,13 +133,7 @@ fn follow_symbol(
 }
 
 /// Joins the paths of a matrix and then along one edge.
-fn follow_edge(
-    schema: &Schema,
-    growing: u64,
-    next: Symbol,
-    matrix: &[Column],
-    product: &mut [Column],
-)
+fn follow_edge(schema: &Schema, growing: u64, next: Symbol, matrix: &Columns, product: &mut Columns)
     requires growing { AreGrowing schema.now.kinds growing }
     requires next { next.edge < length schema.now.edges }
     requires matrix { length matrix.now ≡ length schema.now.kinds }
@@ -150,7 +143,7 @@ fn follow_edge(
 {
     let to = schema.end_of(next);
     let from = schema.start_of(next);
-    let path = followed_column(matrix[from as usize], schema.op_of(next));
+    let path = followed_column(matrix.at(from as usize), schema.op_of(next));
     let path = normal_column(path, growing, schema.kind(to));
-    product[to as usize] = joined_column(product[to as usize], path);
+    product.put(to as usize, joined_column(product.at(to as usize), path));
 }

@@ -1,10 +1,11 @@
 //! Matrices by columns of bits: a column has all entries to one type, by sets of the types from which they lead.
 
-ghost use Rattle.std.specs.Prelude.{◌≡◌, ◌≤◌, ◌<◌, ℕ, length, slice_index_or, slice_set, None, IfOk};
+ghost use Rattle.std.specs.Prelude.{◌≡◌, ◌≤◌, ◌<◌, ℕ, length, None, IfOk};
 ghost use Rattle.sel_algebra.specs.Entries.{IsNormalEntry};
-ghost use Rattle.sel_algebra.specs.Table.{types_most, kind_at, IsMatrix, EachPair, entry, table_of, one_at};
-ghost use Rattle.query_draw.specs.Columns.{has, is_growing, AreGrowing, no_column, no_entry, column_at, AreColumns, AreJoined, equal_column, joined_column, followed_column, normal_column, told, told_at, AreNormal, EntersColumn};
+ghost use Rattle.sel_algebra.specs.Table.{types_most, kind_at, IsMatrix, EachPair, entry, table_of};
+ghost use Rattle.query_draw.specs.Columns.{has, is_growing, AreGrowing, no_column, column_at, equal_column, joined_column, followed_column, normal_column, told, told_at, AreNormal, EntersColumn};
 
+use crate::column_list::Columns;
 use sel_algebra::{Kind, Matrix, Op};
 use std::alloc::{AllocError, Global};
 
@@ -34,7 +35,7 @@ pub(crate) fn no_column() -> Column
 }
 
 /// The column with `Equal` from one type, and no other entry.
-fn equal_column(t: usize) -> Column
+pub(crate) fn equal_column(t: usize) -> Column
     requires { t < types_most }
     ensures { result ≡ equal_column t }
 {
@@ -124,37 +125,8 @@ fn is_growing(kind: Kind) -> bool
     kind == Kind::Growing
 }
 
-/// Takes all entries away.
-pub(crate) fn clear(columns: &mut [Column])
-    ensures { AreColumns (length columns.old) columns.new no_entry }
-{
-    for t in 0..columns.len() {
-        columns[t] = no_column();
-    }
-}
-
-/// Makes the entry from each type to itself `Equal`, and takes all others away.
-pub(crate) fn enter_equal(columns: &mut [Column])
-    requires { length columns.old ≤ types_most }
-    ensures { AreColumns (length columns.old) columns.new one_at }
-{
-    for t in 0..columns.len() {
-        columns[t] = equal_column(t);
-    }
-}
-
-/// Joins each entry with that of another matrix over as many types.
-pub(crate) fn join_all(sum: &mut [Column], others: &[Column])
-    requires { length sum.old ≡ length others.now }
-    ensures { AreJoined sum.old others.now sum.new (length sum.old) }
-{
-    for t in 0..sum.len() {
-        sum[t] = joined_column(sum[t], others[t]);
-    }
-}
-
 /// Whether a type is in a set.
-fn has(set: u64, t: u8) -> bool
+pub(crate) fn has(set: u64, t: u8) -> bool
     requires { t < types_most }
     ensures { result ≡ has set t }
 {
@@ -184,7 +156,7 @@ fn told(column: Column, t: u8) -> Option<Op>
 pub(crate) fn matrix_of(
     alloc: Global,
     kinds: &[Kind],
-    columns: &[Column],
+    columns: &Columns,
 ) -> Result<Matrix, AllocError>
     requires few { length kinds.now ≤ types_most }
     requires whole { length columns.now ≡ length kinds.now }
@@ -193,7 +165,7 @@ pub(crate) fn matrix_of(
 {
     let mut matrix = Matrix::zero(alloc, kinds)?;
     for to in 0..kinds.len() {
-        enter_column(&mut matrix, kinds.len() as u8, columns[to], to as u8);
+        enter_column(&mut matrix, kinds.len() as u8, columns.at(to), to as u8);
     }
     Ok(matrix)
 }

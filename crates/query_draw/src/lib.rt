@@ -4,6 +4,7 @@
 #![tactic(auto)]
 
 mod along;
+mod column_list;
 mod columns;
 mod drawer;
 mod drawing;

@@ -8,11 +8,11 @@ ghost use Rattle.query_terms.specs.Values.{is_word, is_conjunct, is_rule};
 ghost use Rattle.query_terms.specs.Spans.{cut, lies};
 ghost use Rattle.query_terms.specs.Lists.{words_in, conjunct_in, conjuncts_in, rule_in};
 ghost use Rattle.query_terms.specs.View.{query_value};
-ghost use Rattle.query_draw.specs.Columns.{IsWork};
+ghost use Rattle.query_draw.specs.Work.{IsWork};
 ghost use Rattle.query_draw.specs.Wide.{union_matrix, conjunct_matrix, spine_matrix, rule_wide, query_wide};
 
 use crate::along::{Work, follow_word};
-use crate::columns::{clear, join_all, matrix_of};
+use crate::columns::matrix_of;
 use gm_text::Span;
 use query_terms::{Conjunct, Query, Rule};
 use schema_graph::Schema;
@@ -126,12 +126,12 @@ fn union_matrix(
     ensures value { IfOk result (λ matrix. matrix ≡ union_matrix schema.now (words_in query.now.symbols.now words.now)) }
     ensures work { OnOk result (IsWork schema.now work.new) }
 {
-    clear(work.union.as_mut_slice());
+    work.union.clear();
     for span in words {
         follow_word(schema, cut(query.symbols, *span), work);
-        join_all(work.union.as_mut_slice(), work.word.as_slice());
+        work.union.join(&work.word);
     }
-    matrix_of(alloc, schema.kinds(), work.union.as_slice())
+    matrix_of(alloc, schema.kinds(), &work.union)
 }
 
 /// The first items of a list.

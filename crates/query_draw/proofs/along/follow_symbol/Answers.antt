@@ -7,10 +7,10 @@ use Rattle.query_draw.proofs.along.follow_symbol.Goals as goal
 pub loop-edge-init : goal.loop-edge-init
 loop-edge-init c =
     let g = c.args.schema.now in
-    let cleared = subst (λ n. AreColumns n c.clear.new.columns no_entry) c.requires.product c.clear.ensures in
+    let cleared = subst (λ n. AreColumns n c.clear.new.self no_entry) c.requires.product c.clear.ensures in
     record {
       whole = cleared.whole;
-      follows = Follows-none g c.args.symbol.back c.args.edges.now c.args.matrix.now c.clear.new.columns cleared;
+      follows = Follows-none g c.args.symbol.back c.args.edges.now c.args.matrix.now c.clear.new.self cleared;
     }
 
 pub follow_edge-requires-clause-next : goal.follow_edge-requires-clause-next

@@ -1,8 +1,7 @@
-use Rattle.std.proofs.Common.{◌≤◌, ◌+◌, false, length, take, slice_index_or, refl, ap, sym, subst, ◌∙◌}
+use Rattle.std.proofs.Common.{◌+◌, false, length, take, slice_index_or, refl, ap, sym, subst, ◌∙◌}
 use Rattle.std.specs.List.{fold}
-use Rattle.std.proofs.lemmas.List.{with_items_is}
 use Rattle.gm_config.specs.Limits.{labels_most}
-use Rattle.sel_algebra.specs.Table.{types_most, entry, one_at, one_of, times_of}
+use Rattle.sel_algebra.specs.Table.{entry, one_at, one_of, times_of}
 use Rattle.schema_graph.specs.Edge.{label_of}
 use Rattle.query_draw.specs.Columns.{AreColumns}
 use Rattle.query_draw.specs.Wide.{symbol_matrix, times_symbol}
@@ -12,24 +11,18 @@ use Rattle.query_draw.proofs.WideLemmas.{word_kinds}
 use Rattle.query_draw.proofs.MatrixLemmas.{word_more}
 use Rattle.query_draw.proofs.along.follow_word.Goals as goal
 
-pub enter_equal-requires : goal.enter_equal-requires
-enter_equal-requires c = subst (λ n. n ≤ types_most) (sym (ap length c.as_mut_slice.ensures.value ∙ c.requires.work.word)) c.requires.work.few
-
 pub loop-symbol-init : goal.loop-symbol-init
 loop-symbol-init c =
     let g = c.args.schema.now in
-    let work = c.args.work.now in
-    let new = c.enter_equal.new.columns in
-    let long = ap length c.as_mut_slice.ensures.value ∙ c.requires.work.word in
-    let one = AreColumns-table_of g.kinds new one_at (subst (λ n. AreColumns n new one_at) long c.enter_equal.ensures) in
-    let items = with_items_is work.word new (one.whole ∙ (sym c.requires.work.word ∙ sym work.word.ok.0)) in
+    let new = c.enter_equal.new.self in
+    let one = AreColumns-table_of g.kinds new one_at (subst (λ n. AreColumns n new one_at) c.requires.work.word c.enter_equal.ensures) in
     record {
-      word = subst (λ cs. AreColumns (length g.kinds) cs (entry (one_of g.kinds))) (sym items) one;
+      word = one;
       work = record {
         few = c.requires.work.few;
         growing = c.requires.work.growing;
         edges = c.requires.work.edges;
-        word = ap length items ∙ one.whole;
+        word = one.whole;
         longer = c.requires.work.longer;
         union = c.requires.work.union;
       };
@@ -57,17 +50,17 @@ loop-symbol-preserved c =
     let s = slice_index_or word i (record { edge = 0; back = false }) in
     let t = fold (times_symbol g) (one_of g.kinds) (take i word) in
     let new = c.follow_symbol.new.product in
-    let product = c.follow_symbol.ensures.product t (word_kinds g (one_of g.kinds) (take i word)) (subst (λ cs. AreColumns n cs (entry t)) (sym c.as_slice.ensures.value) kept.word) in
+    let product = c.follow_symbol.ensures.product t (word_kinds g (one_of g.kinds) (take i word)) kept.word in
     let more = word_more g t (symbol_matrix g s) (times_of t (symbol_matrix g s)) word i (record { edge = 0; back = false }) c.loop-symbol-test.true refl refl refl in
-    let items = ap (λ v. v.items) c.swap.ensures.x_after ∙ with_items_is work.longer new (c.follow_symbol.ensures.whole ∙ (sym kept.work.longer ∙ sym work.longer.ok.0)) in
+    let swapped = c.swap.ensures.x_after in
     record {
-      word = subst (λ cs. AreColumns n cs (entry (fold (times_symbol g) (one_of g.kinds) (take (i + 1) word)))) (sym items) (subst (λ m. AreColumns n new (entry m)) more product);
+      word = subst (λ cs. AreColumns n cs (entry (fold (times_symbol g) (one_of g.kinds) (take (i + 1) word)))) (sym swapped) (subst (λ m. AreColumns n new (entry m)) more product);
       work = record {
         few = kept.work.few;
         growing = kept.work.growing;
         edges = kept.work.edges;
-        word = ap length items ∙ c.follow_symbol.ensures.whole;
-        longer = ap (λ v. length v.items) c.swap.ensures.y_after ∙ kept.work.word;
+        word = ap length swapped ∙ c.follow_symbol.ensures.whole;
+        longer = ap length c.swap.ensures.y_after ∙ kept.work.word;
         union = kept.work.union;
       };
       union = kept.union;

@@ -1,4 +1,5 @@
 use Rattle.std.proofs.Common.{◌≡◌, length, sym, subst, arith}
+use Rattle.query_draw.specs.Columns.{EntersColumn}
 use Rattle.query_draw.proofs.ColumnLemmas.{HasColumns, HasColumns-none, HasColumns-more, HasColumns-all}
 use Rattle.query_draw.proofs.columns.matrix_of.Goals as goal
 
@@ -9,7 +10,8 @@ loop-to-init c =
 
 pub loop-to-preserved : goal.loop-to-preserved
 loop-to-preserved c =
-    HasColumns-more c.args.kinds.now c.args.columns.now c.loop-to.matrix c.enter_column.new.matrix c.loop-to.to (omega (arith, c.loop-to-test.true)) c.enter_column.ensures.matrix c.enter_column.ensures.entries
+    HasColumns-more c.args.kinds.now c.args.columns.now c.loop-to.matrix c.enter_column.new.matrix c.loop-to.to (omega (arith, c.loop-to-test.true)) c.enter_column.ensures.matrix
+    (subst (λ d. EntersColumn c.loop-to.matrix c.enter_column.new.matrix d c.loop-to.to (length c.args.kinds.now)) c.at.ensures c.enter_column.ensures.entries)
     c.loop-to.invariant
 
 pub returns : goal.returns

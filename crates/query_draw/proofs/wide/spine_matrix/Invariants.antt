@@ -3,7 +3,7 @@ use Rattle.std.specs.List.{fold}
 use Rattle.sel_algebra.specs.Table.{one_of}
 use Rattle.query_terms.specs.Lists.{conjuncts_in}
 use Rattle.query_draw.specs.Wide.{times_conjunct}
-use Rattle.query_draw.specs.Columns.{IsWork}
+use Rattle.query_draw.specs.Work.{IsWork}
 use Rattle.query_draw.proofs.wide.spine_matrix.Given as goal
 
 abbrev pub invariant-loop-conjunct : goal.invariant-loop-conjunct

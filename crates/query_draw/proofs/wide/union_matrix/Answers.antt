@@ -1,6 +1,6 @@
-use Rattle.std.proofs.Common.{◌≡◌, ◌+◌, length, take, true, refl, sym, ap, subst, ◌∙◌}
+use Rattle.std.proofs.Common.{◌≡◌, length, take, true, refl, sym, ap, subst, ◌∙◌}
 use Rattle.std.specs.List.{fold, list_all}
-use Rattle.std.proofs.lemmas.List.{take_all, with_items_is}
+use Rattle.std.proofs.lemmas.List.{take_all}
 use Rattle.sel_algebra.specs.Table.{entry, zero_of, plus_of, table_of}
 use Rattle.sel_algebra.proofs.TableLemmas.{entry-plus_of, IsMatrix-zero_of}
 use Rattle.query_terms.specs.Values.{has_edge}
@@ -15,20 +15,17 @@ use Rattle.query_draw.proofs.wide.union_matrix.Goals as goal
 pub loop-span-init : goal.loop-span-init
 loop-span-init c =
     let g = c.args.schema.now in
-    let work = c.args.work.now in
-    let new = c.clear.new.columns in
-    let long = ap length c.as_mut_slice.ensures.value ∙ c.requires.work.union in
-    let none = AreColumns-table_of g.kinds new no_entry (subst (λ n. AreColumns n new no_entry) long c.clear.ensures) in
-    let items = with_items_is work.union new (none.whole ∙ (sym c.requires.work.union ∙ sym work.union.ok.0)) in
+    let new = c.clear.new.self in
+    let none = AreColumns-table_of g.kinds new no_entry (subst (λ n. AreColumns n new no_entry) c.requires.work.union c.clear.ensures) in
     record {
-      join = subst (λ cs. AreColumns (length g.kinds) cs (entry (zero_of g.kinds))) (sym items) none;
+      join = none;
       work = record {
         few = c.requires.work.few;
         growing = c.requires.work.growing;
         edges = c.requires.work.edges;
         word = c.requires.work.word;
         longer = c.requires.work.longer;
-        union = ap length items ∙ none.whole;
+        union = none.whole;
       };
     }
 
@@ -48,27 +45,23 @@ loop-span-preserved c =
     let kept = c.loop-span.invariant in
     let work = c.follow_word.new.work in
     let follows = c.follow_word.ensures in
-    let old = c.as_mut_slice-in-loop-span.result.now in
-    let others = c.as_slice.result.now in
-    let new = c.join_all.new.sum in
+    let new = c.join.new.self in
     let t = fold (plus_word g) (zero_of g.kinds) (words_in symbols (take i words)) in
     let same : t.kinds ≡ g.kinds = union_kinds g (zero_of g.kinds) (words_in symbols (take i words)) in
     let w = word_matrix g c.cut.result.now in
-    let first : AreColumns n old (entry t) = subst (λ cs. AreColumns n cs (entry t)) (sym (c.as_mut_slice-in-loop-span.ensures.value ∙ ap (λ v. v.items) follows.union)) kept.join in
-    let second : AreColumns n others (entry w) = subst (λ cs. AreColumns n cs (entry w)) (sym c.as_slice.ensures.value) follows.word in
-    let joins = AreColumns-joined n old others new (entry t) (entry w) first second (subst (AreJoined old others new) first.whole c.join_all.ensures) in
+    let first : AreColumns n work.union (entry t) = subst (λ cs. AreColumns n cs (entry t)) (sym follows.union) kept.join in
+    let joins = AreColumns-joined n work.union work.word new (entry t) (entry w) first follows.word (subst (AreJoined work.union work.word new) first.whole c.join.ensures) in
     let sum : AreColumns n new (entry (plus_of t w)) = AreColumns-same n new _ (entry (plus_of t w)) (λ i j p q. sym (entry-plus_of t w i j (rw same p) (rw same q))) joins in
     let more = union_more g symbols t w (plus_of t w) words i _ c.loop-span-test.true refl (ap (word_matrix g) c.cut.ensures) refl in
-    let items = with_items_is work.union new (sum.whole ∙ (sym follows.work.union ∙ sym work.union.ok.0)) in
     record {
-      join = subst (λ cs. AreColumns n cs (entry (fold (plus_word g) (zero_of g.kinds) (words_in symbols (take (i + 1) words))))) (sym items) (subst (λ m. AreColumns n new (entry m)) more sum);
+      join = subst (λ m. AreColumns n new (entry m)) more sum;
       work = record {
         few = follows.work.few;
         growing = follows.work.growing;
         edges = follows.work.edges;
         word = follows.work.word;
         longer = follows.work.longer;
-        union = ap length items ∙ sum.whole;
+        union = sum.whole;
       };
     }
 
@@ -77,9 +70,8 @@ matrix_of-requires-clause-normal c =
     let g = c.args.schema.now in
     let words = words_in c.args.query.now.symbols.now (take c.loop-span.span-index c.args.words.now) in
     let t = fold (plus_word g) (zero_of g.kinds) words in
-    subst (λ ks. AreNormal ks c.as_slice-2.result.now) (sym c.kinds.ensures.kinds)
-    (subst (AreNormal g.kinds) (sym c.as_slice-2.ensures.value)
-    (AreNormal-columns g.kinds c.loop-span.work.union.items t (union_is_matrix g c.loop-span.invariant.work.few (zero_of g.kinds) refl words (IsMatrix-zero_of g.kinds c.loop-span.invariant.work.few)) (union_kinds g (zero_of g.kinds) words) c.loop-span.invariant.join))
+    subst (λ ks. AreNormal ks c.loop-span.work.union) (sym c.kinds.ensures.kinds)
+    (AreNormal-columns g.kinds c.loop-span.work.union t (union_is_matrix g c.loop-span.invariant.work.few (zero_of g.kinds) refl words (IsMatrix-zero_of g.kinds c.loop-span.invariant.work.few)) (union_kinds g (zero_of g.kinds) words) c.loop-span.invariant.join)
 
 pub returns-clause-value : goal.returns-clause-value
 returns-clause-value c =
@@ -87,9 +79,9 @@ returns-clause-value c =
     let symbols = c.args.query.now.symbols.now in
     let some = words_in symbols (take c.loop-span.span-index c.args.words.now) in
     let t = fold (plus_word g) (zero_of g.kinds) some in
-    let cs = c.loop-span.work.union.items in
+    let cs = c.loop-span.work.union in
     let table = told_table g.kinds cs t (union_is_matrix g c.loop-span.invariant.work.few (zero_of g.kinds) refl some (IsMatrix-zero_of g.kinds c.loop-span.invariant.work.few)) (union_kinds g (zero_of g.kinds) some) c.loop-span.invariant.join in
     let all = ap (λ ws. union_matrix g (words_in symbols ws)) (take_all c.loop-span.span-index c.args.words.now c.loop-span-test.false) in
-    let given = ap (λ ks. table_of ks (told_at c.as_slice-2.result.now)) c.kinds.ensures.kinds ∙ ap (λ xs. table_of g.kinds (told_at xs)) c.as_slice-2.ensures.value in
-    if_ok (λ m. m ≡ table_of c.kinds.result.now (told_at c.as_slice-2.result.now)) (λ m. m ≡ union_matrix g (words_in symbols c.args.words.now))
+    let given = ap (λ ks. table_of ks (told_at cs)) c.kinds.ensures.kinds in
+    if_ok (λ m. m ≡ table_of c.kinds.result.now (told_at cs)) (λ m. m ≡ union_matrix g (words_in symbols c.args.words.now))
     (λ m is. is ∙ (given ∙ (table ∙ all))) c.matrix_of.result c.matrix_of.ensures
