@@ -129,7 +129,7 @@ impl Reach {
     /// The places from which exactly `len` symbols, at most [`SYMBOLS_MOST`](crate::SYMBOLS_MOST), carry a state of the start
     /// of `to` to the state `to`.
     ///
-    /// The place of a state is the one that [`State::place`] says.
+    /// Places are those of [`Reach::states_after`].
     pub fn states_before(&self, to: State, len: u8) -> &BitRow<10>
         requires start { to.start < length self.now.schema.kinds }
         requires there { to.at < length self.now.schema.kinds }

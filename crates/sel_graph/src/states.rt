@@ -32,7 +32,7 @@ impl State {
     }
 
     /// Its place: five times the number of the type to which it has come, and the number of its operator in the order of [`Op`].
-    pub fn place(self) -> u32
+    pub(crate) fn place(self) -> u32
         ensures place { result ≡ place self }
         ensures within { result < 5 * self.at + 5 }
     {
