@@ -1,11 +1,11 @@
 ghost use Rattle.std.specs.Prelude.{◌≡◌, ◌<◌, length, IfOk};
 
+use crate::samples::{Entries, entries};
 use sel_algebra::Class::{self, Constant, Linear, Quadratic};
 use sel_algebra::Kind::{self, Fixed, Growing};
 use sel_algebra::Op::{self, Cross, Diamond, Equal, Greater, Less};
 use sel_algebra::{Matrix, class_of, compose, join, mirror, normal, star};
 use std::alloc::{AllocError, Global};
-use std::test::Fail;
 
 #[test]
 fn compositions(rt: HostRuntime) {
@@ -45,9 +45,6 @@ fn repetitions_and_mirrors(rt: HostRuntime) {
     }
 }
 
-/// The entries of a matrix over two types, row by row.
-type Entries = [Option<Op>; 4];
-
 /// The matrix over two types of these kinds with the normal forms of these entries, row by row.
 fn matrix(alloc: Global, kinds: &[Kind], entries: Entries) -> Result<Matrix, AllocError>
     requires { length kinds.now ≡ 2 }
@@ -73,24 +70,26 @@ fn set_if(matrix: &mut Matrix, from: u8, to: u8, op: Option<Op>)
     }
 }
 
-/// The entries of a matrix over two types, row by row, and `None` where it is over other types.
-fn entries(matrix: &Matrix) -> Option<Entries> {
-    if matrix.kinds().len() != 2 {
+/// The entries of the closure of a matrix, and whether it is over types of these kinds.
+fn closed(alloc: Global, steps: &Matrix, kinds: &[Kind]) -> Option<(Option<Entries>, bool)> {
+    let Ok(closure) = steps.closure(alloc) else {
         return None;
-    }
-    Some([
-        matrix.get(0, 0),
-        matrix.get(0, 1),
-        matrix.get(1, 0),
-        matrix.get(1, 1),
-    ])
+    };
+    Some((entries(&closure), closure.kinds() == kinds))
+}
+
+/// The closure of the matrix over two types of these kinds with the normal forms of these entries.
+fn closure_of(alloc: Global, kinds: [Kind; 2], steps: Entries) -> Option<(Option<Entries>, bool)> {
+    let Ok(steps) = matrix(alloc, &kinds, steps) else {
+        return None;
+    };
+    closed(alloc, &steps, &kinds)
 }
 
 #[test]
-fn closures(rt: HostRuntime) -> Result<(), Fail> {
-    let alloc = rt.alloc();
+fn closures(rt: HostRuntime) {
     let diagonal = [Some(Equal), None, None, Some(Equal)];
-    for (kinds, steps, closed) in [
+    for (kinds, steps, expected) in [
         (
             [Growing, Growing],
             [None, Some(Equal), None, None],
@@ -104,33 +103,60 @@ fn closures(rt: HostRuntime) -> Result<(), Fail> {
         ([Fixed, Growing], diagonal, diagonal),
         ([Fixed, Growing], [None, None, None, None], diagonal),
     ] {
-        let closure = matrix(alloc, &kinds, steps)?.closure(alloc)?;
-        assert_eq!(rt; entries(&closure), Some(closed));
-        assert_eq!(rt; closure.kinds(), kinds.as_slice());
+        let found = closure_of(rt.alloc(), kinds, steps);
+        assert_eq!(rt; found, Some((Some(expected), true)));
     }
-    Ok(())
 }
 
-/// The product of two matrices over a fixed and a growing type, its greatest class, and the union of the two.
+/// The entries of the product of two matrices over the same types, and its greatest class.
+fn product_of(
+    alloc: Global,
+    first: &Matrix,
+    second: &Matrix,
+) -> Option<(Option<Entries>, Option<Class>)>
+    requires { second.now.kinds ≡ first.now.kinds }
+{
+    let Ok(path) = first.times(alloc, second) else {
+        return None;
+    };
+    Some((entries(&path), path.greatest_class()))
+}
+
+/// The entries of the union of two matrices over the same types.
+fn union_of(alloc: Global, first: &Matrix, second: &Matrix) -> Option<Entries>
+    requires { second.now.kinds ≡ first.now.kinds }
+{
+    let Ok(union) = first.plus(alloc, second) else {
+        return None;
+    };
+    entries(&union)
+}
+
+/// The product of two matrices over a fixed and a growing type with its greatest class, and the union of the two.
 fn product_and_union(
     alloc: Global,
     first: Entries,
     second: Entries,
-) -> Result<(Option<Entries>, Option<Class>, Option<Entries>), AllocError> {
+) -> Option<(Option<(Option<Entries>, Option<Class>)>, Option<Entries>)> {
     let kinds = [Fixed, Growing];
-    let first = matrix(alloc, &kinds, first)?;
-    let second = matrix(alloc, &kinds, second)?;
-    let path = first.times(alloc, &second)?;
-    let union = first.plus(alloc, &second)?;
-    Ok((entries(&path), path.greatest_class(), entries(&union)))
+    let Ok(first) = matrix(alloc, &kinds, first) else {
+        return None;
+    };
+    let Ok(second) = matrix(alloc, &kinds, second) else {
+        return None;
+    };
+    Some((
+        product_of(alloc, &first, &second),
+        union_of(alloc, &first, &second),
+    ))
 }
 
 #[test]
-fn products_and_joins(rt: HostRuntime) -> Result<(), Fail> {
+fn products_and_joins(rt: HostRuntime) {
     let along = [None, Some(Less), None, Some(Equal)];
     let back = [None, None, Some(Greater), Some(Equal)];
     let none = [None, None, None, None];
-    for (first, second, product, class, sum) in [
+    for (first, second, path, class, sum) in [
         (
             back,
             along,
@@ -147,12 +173,9 @@ fn products_and_joins(rt: HostRuntime) -> Result<(), Fail> {
         ),
         (none, along, none, None, along),
     ] {
-        assert_eq!(rt;
-            product_and_union(rt.alloc(), first, second)?,
-            (Some(product), class, Some(sum))
-        );
+        let found = product_and_union(rt.alloc(), first, second);
+        assert_eq!(rt; found, Some((Some((Some(path), class)), Some(sum))));
     }
-    Ok(())
 }
 
 /// The matrix over 64 growing types with no entries.
@@ -162,31 +185,43 @@ fn zero_of_sixty_four(alloc: Global) -> Result<Matrix, AllocError>
     Matrix::zero(alloc, &[Growing; 64])
 }
 
-#[test]
-fn sixty_four_types(rt: HostRuntime) -> Result<(), Fail> {
-    let alloc = rt.alloc();
-    let mut steps = zero_of_sixty_four(alloc)?;
-    steps.set(0, 63, Diamond);
-    steps.set(63, 0, Less);
-    let closure = steps.closure(alloc)?;
-    for (from, to, op) in [
-        (0, 0, Some(Cross)),
-        (63, 63, Some(Cross)),
-        (1, 1, Some(Equal)),
-        (1, 63, None),
-    ] {
-        assert_eq!(rt; entry(&closure, from, to), Some(op));
+/// Entries between the first, the second and the last of 64 types, and the greatest class of all entries.
+fn corners(matrix: &Matrix) -> Option<(Entries, Option<Class>)> {
+    if matrix.kinds().len() != 64 {
+        return None;
     }
-    assert_eq!(rt; closure.greatest_class(), Some(Quadratic));
-    Ok(())
+    let entries = [
+        matrix.get(0, 0),
+        matrix.get(63, 63),
+        matrix.get(1, 1),
+        matrix.get(1, 63),
+    ];
+    Some((entries, matrix.greatest_class()))
 }
 
-/// The entry between two types of a matrix, and `None` where it has no such types.
-fn entry(matrix: &Matrix, from: u8, to: u8) -> Option<Option<Op>> {
-    let size = matrix.kinds().len();
-    if (from as usize) < size && (to as usize) < size {
-        Some(matrix.get(from, to))
-    } else {
-        None
-    }
+/// The corners of the closure of a matrix.
+fn closed_corners(alloc: Global, steps: &Matrix) -> Option<(Entries, Option<Class>)> {
+    let Ok(closure) = steps.closure(alloc) else {
+        return None;
+    };
+    corners(&closure)
+}
+
+/// The corners of the closure, where steps lead from the first of 64 types to the last and back.
+fn corners_of_sixty_four(alloc: Global) -> Option<(Entries, Option<Class>)> {
+    let Ok(mut steps) = zero_of_sixty_four(alloc) else {
+        return None;
+    };
+    steps.set(0, 63, Diamond);
+    steps.set(63, 0, Less);
+    closed_corners(alloc, &steps)
+}
+
+#[test]
+fn sixty_four_types(rt: HostRuntime) {
+    let entries = [Some(Cross), Some(Cross), Some(Equal), None];
+    assert_eq!(rt;
+        corners_of_sixty_four(rt.alloc()),
+        Some((entries, Some(Quadratic)))
+    );
 }
