@@ -2,9 +2,17 @@ use gm_text::*;
 use std::alloc::{AllocError, Global};
 use std::test::Fail;
 
+/// How many names a list of two has, and whether the second is the one that was put there.
+fn list_of_two(alloc: Global) -> Result<(usize, bool), AllocError> {
+    let first = Name::of(b"knows".to_vec(alloc)?);
+    let second = Name::of(b"Person".to_vec(alloc)?);
+    let names: Names = Items::of(vec![in alloc; first, second]?);
+    let same = names.at(1).as_slice() == b"Person".as_slice();
+    Ok((names.len(), same))
+}
+
 #[test]
 fn names(rt: HostRuntime) -> Result<(), Fail> {
-    let alloc = rt.alloc();
     for (bytes, is) in [
         (b"a_B9".as_slice(), true),
         (b"abcdefghijklmnopqrstuvwxyz_12345", true),
@@ -17,30 +25,25 @@ fn names(rt: HostRuntime) -> Result<(), Fail> {
     ] {
         assert_eq!(rt; is_name(bytes), is);
     }
-    let names: Names = Items::of(vec![in alloc;
-        Name::of(b"knows".to_vec(alloc)?),
-        Name::of(b"Person".to_vec(alloc)?),
-    ]?);
-    assert_eq!(rt; names.len(), 2);
-    assert_eq!(rt; names.at(1).as_slice(), b"Person".as_slice());
+    assert_eq!(rt; list_of_two(rt.alloc())?, (2, true));
     Ok(())
 }
 
-fn decimal_after(alloc: Global, before: &[u8], n: u64) -> Result<Vec<u8>, AllocError> {
+/// Whether a number that is written after these bytes makes this text.
+fn makes(alloc: Global, before: &[u8], n: u64, text: &[u8]) -> Result<bool, AllocError> {
     let mut out = before.to_vec(alloc)?;
     write_decimal(alloc, &mut out, n)?;
-    Ok(out)
+    Ok(out.as_slice() == text)
 }
 
 #[test]
 fn written_decimals(rt: HostRuntime) -> Result<(), Fail> {
-    let alloc = rt.alloc();
     for (n, text) in [
         (0, b"n=0".as_slice()),
         (10, b"n=10"),
         (u64::MAX, b"n=18446744073709551615"),
     ] {
-        assert_eq!(rt; decimal_after(alloc, b"n=", n)?.as_slice(), text);
+        assert!(rt; makes(rt.alloc(), b"n=", n, text)?);
     }
     Ok(())
 }
@@ -64,8 +67,8 @@ fn read_decimals(rt: HostRuntime) {
     }
 }
 
-/// The lines of a text: `$` stands after each that is ended, and `!` after one that isn't.
-fn shown_lines(alloc: Global, text: &[u8]) -> Result<Vec<u8>, AllocError> {
+/// Whether the lines of a text are these: `$` stands after each that is ended, and `!` after one that isn't.
+fn has_lines(alloc: Global, text: &[u8], lines: &[u8]) -> Result<bool, AllocError> {
     let mut shown = Vec::new(alloc);
     let mut scan = Scan::new(text);
     for _ in 0..5 {
@@ -74,39 +77,39 @@ fn shown_lines(alloc: Global, text: &[u8]) -> Result<Vec<u8>, AllocError> {
             shown.extend_from_slice(if line.ended { b"$" } else { b"!" })?;
         }
     }
-    Ok(shown)
+    Ok(shown.as_slice() == lines)
 }
 
 #[test]
 fn lines(rt: HostRuntime) -> Result<(), Fail> {
-    for (text, shown) in [
+    for (text, lines) in [
         (b"".as_slice(), b"".as_slice()),
         (b"a", b"a!"),
         (b"a\n", b"a$"),
         (b"\n", b"$"),
         (b"a\n\nb\r\nc", b"a$$b\r$c!"),
     ] {
-        assert_eq!(rt; shown_lines(rt.alloc(), text)?.as_slice(), shown);
+        assert!(rt; has_lines(rt.alloc(), text, lines)?);
     }
     Ok(())
 }
 
-/// The words of a line, with `|` after each.
-fn shown_words(alloc: Global, line: &[u8]) -> Result<Vec<u8>, AllocError> {
+/// Whether the words of a line are these, with `|` after each.
+fn has_words(alloc: Global, line: &[u8], words: &[u8]) -> Result<bool, AllocError> {
     let mut shown = Vec::new(alloc);
-    let mut words = Words::new(line);
+    let mut scan = Words::new(line);
     for _ in 0..5 {
-        if let Some(word) = words.next_word() {
+        if let Some(word) = scan.next_word() {
             shown.extend_from_slice(word)?;
             shown.extend_from_slice(b"|")?;
         }
     }
-    Ok(shown)
+    Ok(shown.as_slice() == words)
 }
 
 #[test]
 fn words(rt: HostRuntime) -> Result<(), Fail> {
-    for (line, shown) in [
+    for (line, words) in [
         (b"".as_slice(), b"|".as_slice()),
         (b"label", b"label|"),
         (b"edge 0 12", b"edge|0|12|"),
@@ -114,7 +117,7 @@ fn words(rt: HostRuntime) -> Result<(), Fail> {
         (b" a ", b"|a||"),
         (b"a\tb", b"a\tb|"),
     ] {
-        assert_eq!(rt; shown_words(rt.alloc(), line)?.as_slice(), shown);
+        assert!(rt; has_words(rt.alloc(), line, words)?);
     }
     Ok(())
 }

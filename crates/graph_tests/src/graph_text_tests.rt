@@ -1,6 +1,18 @@
 use graph_text::{Edges, Graph, GraphError, Pairs, Triple, line_of, read_edges, write_edges};
-use std::alloc::Global;
+use std::alloc::{AllocError, Global};
 use std::test::Fail;
+
+/// Whether the graph of these triples has a node.
+fn has_node(alloc: Global, triples: &[Triple], n: u32) -> Result<bool, AllocError> {
+    let graph = Graph::of(triples.to_vec(alloc)?);
+    Ok(graph.has_node(n))
+}
+
+/// Whether the graph of these triples gives them back.
+fn are_given_back(alloc: Global, triples: &[Triple]) -> Result<bool, AllocError> {
+    let items = Graph::of(triples.to_vec(alloc)?).into_items();
+    Ok(items.as_slice() == triples)
+}
 
 #[test]
 fn graphs(rt: HostRuntime) -> Result<(), Fail> {
@@ -17,21 +29,23 @@ fn graphs(rt: HostRuntime) -> Result<(), Fail> {
             trg: 8,
         },
     ];
-    let graph = Graph::of(triples.to_vec(alloc)?);
     for (n, expected) in [(3, true), (5, true), (8, true), (0, false), (1, false)] {
-        assert_eq!(rt; graph.has_node(n), expected);
+        assert_eq!(rt; has_node(alloc, &triples, n)?, expected);
     }
-    assert_eq!(rt; graph.into_items().as_slice(), triples.as_slice());
+    assert!(rt; are_given_back(alloc, &triples)?);
     Ok(())
+}
+
+/// How many pairs a list of three has, the second, and whether all are those that were put there.
+fn list_of_three(alloc: Global) -> Result<(usize, (u32, u32), bool), AllocError> {
+    let pairs = Pairs::of(vec![in alloc; (0, 1), (0, 2), (1, 0)]?);
+    let same = pairs.as_slice() == [(0, 1), (0, 2), (1, 0)].as_slice();
+    Ok((pairs.len(), *pairs.at(1), same))
 }
 
 #[test]
 fn pairs(rt: HostRuntime) -> Result<(), Fail> {
-    let alloc = rt.alloc();
-    let pairs = Pairs::of(vec![in alloc; (0, 1), (0, 2), (1, 0)]?);
-    assert_eq!(rt; pairs.len(), 3);
-    assert_eq!(rt; *pairs.at(1), (0, 2));
-    assert_eq!(rt; pairs.as_slice(), [(0, 1), (0, 2), (1, 0)].as_slice());
+    assert_eq!(rt; list_of_three(rt.alloc())?, (3, (0, 2), true));
     Ok(())
 }
 
@@ -58,19 +72,29 @@ fn bad_lines(rt: HostRuntime) {
     }
 }
 
-/// What a text is read as, appended to these bytes.
-fn written_back(alloc: Global, before: &[u8], text: &[u8]) -> Result<Vec<u8>, GraphError> {
+/// Whether a text is read as these triples.
+fn is_read_as(alloc: Global, text: &[u8], triples: &[Triple]) -> Result<bool, GraphError> {
+    let graph = read_edges(alloc, text)?;
+    Ok(graph.as_slice() == triples)
+}
+
+/// Whether what a text is read as makes these bytes, when it is appended to the bytes before.
+fn is_written_back(
+    alloc: Global,
+    before: &[u8],
+    text: &[u8],
+    after: &[u8],
+) -> Result<bool, GraphError> {
     let edges = Edges::of(read_edges(alloc, text)?.into_items());
     let mut out = before.to_vec(alloc)?;
     write_edges(alloc, &mut out, &edges)?;
-    Ok(out)
+    Ok(out.as_slice() == after)
 }
 
 #[test]
 fn texts(rt: HostRuntime) -> Result<(), Fail> {
     let alloc = rt.alloc();
-    assert_eq!(rt; read_edges(alloc, b"")?.is_empty(), true);
-    let read = read_edges(alloc, b"3 0 5\n0 63 999999\n")?;
+    let text = b"3 0 5\n0 63 999999\n";
     let triples = [
         Triple {
             src: 3,
@@ -83,11 +107,9 @@ fn texts(rt: HostRuntime) -> Result<(), Fail> {
             trg: 999_999,
         },
     ];
-    assert_eq!(rt; read.as_slice(), triples.as_slice());
-    assert_eq!(rt;
-        written_back(alloc, b"x", b"3 0 5\n0 63 999999\n")?.as_slice(),
-        b"x3 0 5\n0 63 999999\n".as_slice()
-    );
+    assert!(rt; is_read_as(alloc, b"", &[])?);
+    assert!(rt; is_read_as(alloc, text, &triples)?);
+    assert!(rt; is_written_back(alloc, b"x", text, b"x3 0 5\n0 63 999999\n")?);
     Ok(())
 }
 
