@@ -3,7 +3,7 @@ use gm_config::read_config;
 use schema_graph::{Schema, SchemaEdge};
 use sel_algebra::Kind::{self, Fixed, Growing};
 use sel_algebra::Op::{Diamond, Equal, Greater, Less};
-use sel_algebra::{Matrix, Op, Symbol};
+use sel_algebra::{Op, Symbol};
 use std::alloc::{AllocError, Global};
 
 /// Label p goes from a, which has a number of nodes, to b, which has a share, and from b to b.
