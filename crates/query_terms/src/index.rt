@@ -43,9 +43,26 @@ impl TermIndex {
 
     /// All terms, in the order of their numbers.
     pub(crate) fn as_slice(&self) -> &[Term]
-        ensures { result.now ≡ self.now }
+        ensures value { result.now ≡ self.now }
+        ensures numbered { IsNumbered self.now }
     {
         self.terms.as_slice()
+    }
+
+    /// The number of terms.
+    pub(crate) fn len(&self) -> u32
+        ensures count { result ≡ length self.now }
+        ensures numbered { IsNumbered self.now }
+    {
+        self.terms.as_slice().len() as u32
+    }
+
+    /// The term with a number.
+    pub(crate) fn get(&self, n: u32) -> Term
+        requires { n < length self.now }
+        ensures { slice_get self.now n ≡ Some result }
+    {
+        self.terms.as_slice()[n as usize]
     }
 
     /// The number of the term, which is added at the end where it isn't there.

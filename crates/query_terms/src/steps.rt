@@ -4,14 +4,14 @@ ghost use Rattle.std.specs.Prelude.{◌≡◌, ◌≤◌, ◌<◌, ◌+◌, leng
 ghost use Rattle.query_terms.specs.declared.terms.Term.TheVariants.{Step};
 ghost use Rattle.query_terms.specs.Store.{terms_most, put_of};
 
-use crate::store::TermStore;
+use crate::index::TermIndex;
 use crate::terms::{Term, TermId};
 use std::alloc::AllocError;
 
 /// The number of a step, which is added at the end where it isn't there. `places` has for each label and direction a number
 /// at which to look first.
 pub(crate) fn put_step(
-    terms: &mut TermStore<'_>,
+    terms: &mut TermIndex,
     places: &mut Vec<u32>,
     label: u8,
     back: bool,
@@ -32,7 +32,7 @@ pub(crate) fn put_step(
 }
 
 /// The number at a place, where the term has it.
-fn found(terms: &TermStore<'_>, places: &[u32], place: usize, term: Term) -> Option<TermId>
+fn found(terms: &TermIndex, places: &[u32], place: usize, term: Term) -> Option<TermId>
     ensures put { IfSome result (λ id. put_of terms.now term ≡ record { terms = terms.now; number = id }) }
     ensures inside { IfSome result (λ id. slice_get terms.now id ≡ Some term) }
 {
@@ -43,11 +43,10 @@ fn found(terms: &TermStore<'_>, places: &[u32], place: usize, term: Term) -> Opt
     if number >= terms.len() {
         return None;
     }
-    let id = terms.id(number);
-    if terms.get(id) != term {
+    if terms.get(number) != term {
         return None;
     }
-    Some(id)
+    Some(TermId::of(number))
 }
 
 /// Notes the number of a term at a place.

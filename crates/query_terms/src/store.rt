@@ -99,23 +99,19 @@ impl<'a> TermStore<'a> {
         TermId::of(n)
     }
 
-    /// The same terms, without what finds them, in the arena.
-    pub(crate) fn into_listed(self) -> Result<TermStore<'a>, AllocError>
-        ensures { IfOk result (λ store. store ≡ self.entry) }
+    /// The store with terms that are listed in the arena.
+    pub(crate) fn listed(
+        alloc: Global,
+        arena: &'a Arena,
+        terms: &[Term],
+    ) -> Result<TermStore<'a>, AllocError>
+        requires { IsNumbered terms.now }
+        ensures { IfOk result (λ store. store ≡ terms.now) }
     {
-        let TermStore {
-            alloc,
-            arena,
-            terms,
-        } = self;
-        let terms = match terms {
-            Terms::Indexed(index) => listed(alloc, arena, index.as_slice())?,
-            terms => terms,
-        };
         Ok(TermStore {
             alloc,
             arena,
-            terms,
+            terms: listed(alloc, arena, terms)?,
         })
     }
 }

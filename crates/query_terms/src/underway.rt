@@ -5,6 +5,7 @@ ghost use Rattle.query_terms.specs.declared.terms.Term.TheVariants.{Step};
 ghost use Rattle.query_terms.specs.Store.{terms_most};
 ghost use Rattle.query_terms.specs.Underway.{with_step, with_choice, with_end, closed};
 
+use crate::index::TermIndex;
 use crate::steps::put_step;
 use crate::store::TermStore;
 use crate::terms::{Term, TermId};
@@ -15,7 +16,9 @@ use std::marker::Model;
 /// The terms so far, with those of the word and of the conjunct that are begun.
 #[derive(Drop)]
 pub(crate) struct Numbering<'a> {
-    terms: TermStore<'a>,
+    alloc: Global,
+    arena: &'a Arena,
+    terms: TermIndex,
     word: Option<TermId>,
     union: Option<TermId>,
     /// Where steps were found last.
@@ -38,7 +41,9 @@ impl<'a> Numbering<'a> {
         ensures { result ≡ record { terms = []; word = None; union = None } }
     {
         Numbering {
-            terms: TermStore::new(alloc, arena),
+            alloc,
+            arena,
+            terms: TermIndex::new(alloc),
             word: None,
             union: None,
             steps: Vec::new(alloc),
@@ -100,10 +105,10 @@ impl<'a> Numbering<'a> {
         Ok(term)
     }
 
-    /// The terms.
+    /// The terms, in the arena.
     pub(crate) fn into_terms(self) -> Result<TermStore<'a>, AllocError>
         ensures { IfOk result (λ terms. terms ≡ self.entry.terms) }
     {
-        self.terms.into_listed()
+        TermStore::listed(self.alloc, self.arena, self.terms.as_slice())
     }
 }
