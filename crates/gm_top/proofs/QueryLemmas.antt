@@ -10,7 +10,7 @@ use Rattle.gm_config.specs.Config.{ConfigValue}
 use Rattle.query_terms.specs.Values.{QueryValue}
 use Rattle.workload_text.specs.Head.{head_of}
 use Rattle.workload_text.specs.Values.{HeadValue}
-use Rattle.query_draw.specs.Query.{query_of}
+use Rattle.query_draw.specs.Query.{query_of, narrow}
 use Rattle.query_texts.specs.Texts.{text_of}
 use Rattle.workload_text.proofs.HeadLemmas.{take-more}
 use Rattle.gm_top.specs.Workload.{queries_of, workload_of}
@@ -116,11 +116,25 @@ drawn-count config seed = length-map-range_with_len (query_of config seed) 0 con
 pub under-head : (P : List Output → Type 0) (lent own : HeadValue) (number : ℕ) (q : QueryValue) → lent ≡ own → P (pair_of lent.labels number q) → P (pair_of own.labels number q)
 under-head P lent own number q same p = subst (λ (h : HeadValue). P (pair_of h.labels number q)) same p
 
--- the outputs of the query that was drawn are those of the drawn query
-pub as-drawn : (P : List Output → Type 0) (config : ConfigValue) (seed number : ℕ) (h : HeadValue) (q : QueryValue) → h ≡ head_of config → q ≡ query_of config seed number
-    → P (pair_of h.labels number q) → P (drawn_outputs config seed number)
-as-drawn P config seed number h q head is p =
-    subst (λ (own : QueryValue). P (pair_of (head_of config).labels number own)) is (under-head P h (head_of config) number q head p)
+-- the texts of a query don't rest on its wide class
+narrow-files : (names : List (List ℕ)) (number : ℕ) (q : QueryValue) (files : FileList) → AreFilesOf (pair_of names number (narrow q)) files → AreFilesOf (pair_of names number q) files
+narrow-files names number q [] are = are
+narrow-files names number q (sparql ∷ []) are = are
+narrow-files names number q (sparql ∷ sql ∷ []) are = are
+narrow-files names number q (sparql ∷ sql ∷ file ∷ files) are = are
+
+-- so what is known of its files without it is known of its files
+pub without-wide : (P : FileList → Type 0) (names : List (List ℕ)) (number : ℕ) (q : QueryValue)
+    → (files : FileList) × AreFilesOf (pair_of names number (narrow q)) files × P files → (files : FileList) × AreFilesOf (pair_of names number q) files × P files
+without-wide P names number q found = (found.0, narrow-files names number q found.0 found.1.0, found.1.1)
+
+-- the files of the query that was drawn are those of the drawn query
+pub as-drawn : (P : FileList → Type 0) (config : ConfigValue) (seed number : ℕ) (h : HeadValue) (q : QueryValue) → h ≡ head_of config → q ≡ narrow (query_of config seed number)
+    → (files : FileList) × AreFilesOf (pair_of h.labels number q) files × P files → (files : FileList) × AreFilesOf (drawn_outputs config seed number) files × P files
+as-drawn P config seed number h q head is found =
+    without-wide P (head_of config).labels number (query_of config seed number)
+    (subst (λ (own : QueryValue). (files : FileList) × AreFilesOf (pair_of (head_of config).labels number own) files × P files) is
+    (subst (λ (own : HeadValue). (files : FileList) × AreFilesOf (pair_of own.labels number q) files × P files) head found))
 
 -- the files after that of the graph
 pub later-files : (config : ConfigValue) (seed : ℕ) → (files : FileList) × AreFilesOf (workload config seed ∷ work_outputs (workload_of config seed)) files

@@ -53,7 +53,7 @@ pub(crate) fn write_queries<F: Folder>(
     Ok(())
 }
 
-/// Writes the files of the drawn query with a number.
+/// Writes the files of the drawn query with a number, whose texts don't name its wide class.
 fn write_drawn<F: Folder>(
     alloc: Global,
     generation: &Generation,
@@ -80,7 +80,7 @@ fn write_drawn<F: Folder>(
     ensures fault { IsErrOf result Outcome.WriteFault → Rose (F.faults folder.old) (F.faults folder.new) }
     ensures faults { ¬ IsErrOf result Outcome.WriteFault → F.faults folder.new ≡ F.faults folder.old }
 {
-    let query = generation.query(alloc, number, arena)?;
+    let query = generation.narrow_query(alloc, number, arena)?;
     write_query(alloc, head, number, &query, folder)
 }
 
