@@ -17,3 +17,4 @@ pub mod TypeLemmas
 pub mod OrderLemmas
 pub mod EdgeLemmas
 pub mod BucketLemmas
+pub mod FirstLemmas

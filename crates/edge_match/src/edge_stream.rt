@@ -12,14 +12,15 @@ ghost use Rattle.edge_match.specs.AllEdges.{AreEdgesOf};
 use crate::config_edges::{both_degrees, stubs_at};
 use crate::config_sides::{Side, label_of};
 use crate::errors::{MatchError, TooManyStubs};
-use crate::stubs::nodes_by_rank;
+use crate::sides::total_of;
+use crate::stubs::first_nodes_by_rank;
 use gm_config::Config;
 use graph_text::{Edges, Triple};
 use std::alloc::{AllocError, Global};
 use std::marker::Model;
 
 /// The edges of a constraint that are still to come, in the order of their ranks. It holds the nodes of that
-/// constraint's stubs alone.
+/// constraint's first stubs alone.
 #[derive(Drop)]
 pub struct EdgeStream {
     sources: Vec<u32>,
@@ -57,9 +58,10 @@ impl EdgeStream {
     {
         let (out_degrees, in_degrees) = both_degrees(alloc, config, seed, c)?;
         let outs = stubs_at(config, c, Side::Out, out_degrees);
-        let sources = nodes_by_rank(alloc, seed, &outs)?;
         let ins = stubs_at(config, c, Side::In, in_degrees);
-        let targets = nodes_by_rank(alloc, seed, &ins)?;
+        let wanted = total_of(&outs.degrees).min(total_of(&ins.degrees)) as usize;
+        let sources = first_nodes_by_rank(alloc, seed, &outs, wanted)?;
+        let targets = first_nodes_by_rank(alloc, seed, &ins, wanted)?;
         Ok(EdgeStream {
             sources,
             targets,
