@@ -157,7 +157,7 @@ Follows-more g growing back edges a old new m is fits grows known follows joins 
 
 -- ---- all edges of a label
 
-join_below-most : (n : ℕ) (f : ℕ → Option Op) (c : Option Op) → ((k : ℕ) → k < n → EntryAtMost (f k) c) → EntryAtMost (join_below n f) c
+pub join_below-most : (n : ℕ) (f : ℕ → Option Op) (c : Option Op) → ((k : ℕ) → k < n → EntryAtMost (f k) c) → EntryAtMost (join_below n f) c
 unfolding join_below
 join_below-most zero f c most = tt
 join_below-most (suc n) f c most = joined-EntryAtMost (join_below n f) (f n) c (join_below-most n f c (λ k lt. most k (omega (arith, lt)))) (most n (omega arith))

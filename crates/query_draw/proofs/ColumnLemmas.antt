@@ -3,6 +3,7 @@ use Rattle.std.proofs.Common.{◌≡◌, ◌≢◌, ℕ, zero, suc, ◌+◌, ◌
 use Rattle.std.specs.Int.{bit_at, bit_not, w64}
 use Rattle.std.specs.Int.Bits.{or_zero_l}
 use Rattle.std.specs.Int.RustNames.{bit_and, bit_or}
+use Rattle.std.proofs.lemmas.Bool.{and_parts, eqb-true}
 use Rattle.std.proofs.lemmas.Bool.Decides.{eqb_tells}
 use Rattle.std.proofs.lemmas.List.{ext_get_or, get_or-set_same, get_or-set_other, length-set, length-map}
 use Rattle.std.proofs.lemmas.List.FromFn.{length-range_with_len, get_or-map-range_with_len}
@@ -28,7 +29,7 @@ not_test zero p = refl
 not_test (suc zero) p = refl
 not_test (suc (suc x)) p = absurd (omega (arith, p))
 
-has_none : (i : ℕ) → has 0 i ≡ false
+pub has_none : (i : ℕ) → has 0 i ≡ false
 has_none i = rw (bit_at-zero i) refl
 
 has_not : (a i : ℕ) → a < 2 ^ 64 → i < 64 → has (bit_not w64 a) i ≡ not (has a i)
@@ -187,6 +188,26 @@ AreColumns-same n cs f g same are = record { whole = are.whole; each = λ i j p 
 pub AreColumns-table_of : (kinds : List Kind) (cs : List Column) (f : ℕ → ℕ → Option Op) → AreColumns (length kinds) cs f → AreColumns (length kinds) cs (entry (table_of kinds f))
 AreColumns-table_of kinds cs f are = AreColumns-same (length kinds) cs f (entry (table_of kinds f)) (λ i j p q. sym (entry-table_of kinds f i j p q)) are
 
+equal_parts : (a b : Column) → ((a.there == b.there) && ((a.less == b.less) && ((a.greater == b.greater) && (a.cross == b.cross)))) ≡ true → a ≡ b
+equal_parts a b same =
+    let (there, rest) = and_parts (a.there == b.there) ((a.less == b.less) && ((a.greater == b.greater) && (a.cross == b.cross))) same in
+    let (less, more) = and_parts (a.less == b.less) ((a.greater == b.greater) && (a.cross == b.cross)) rest in
+    let (greater, cross) = and_parts (a.greater == b.greater) (a.cross == b.cross) more in
+    λ i. record {
+      there = eqb-true a.there b.there there i;
+      less = eqb-true a.less b.less less i;
+      greater = eqb-true a.greater b.greater greater i;
+      cross = eqb-true a.cross b.cross cross i;
+    }
+
+not_differ : (b : Bool) → false ≡ not b → b ≡ true
+not_differ true same = refl
+not_differ false same = absurd (cc)
+
+-- columns of which no set differs
+pub same_column : (a b : Column) → false ≡ not ((a.there == b.there) && ((a.less == b.less) && ((a.greater == b.greater) && (a.cross == b.cross)))) → a ≡ b
+same_column a b same = equal_parts a b (not_differ ((a.there == b.there) && ((a.less == b.less) && ((a.greater == b.greater) && (a.cross == b.cross)))) same)
+
 -- ---- the columns to the types of a set
 
 pub shown-long : (filled : ℕ) (cs : List Column) → length (shown filled cs) ≡ length cs
@@ -260,10 +281,9 @@ AreColumns-joined n old others new f g p q are = record {
 -- ---- tables
 
 -- a matrix with the entries f is their table
-pub same_table : (kinds : List Kind) (f : ℕ → ℕ → Option Op) (t : Table) → IsMatrix t → t.kinds ≡ kinds → EachPair kinds (λ i j. entry t i j ≡ f i j) → t ≡ table_of kinds f
-same_table kinds f t is same each =
+pub same_table : (kinds : List Kind) (f : ℕ → ℕ → Option Op) (t : Table) → length t.cells ≡ length kinds * length kinds → t.kinds ≡ kinds → EachPair kinds (λ i j. entry t i j ≡ f i j) → t ≡ table_of kinds f
+same_table kinds f t whole same each =
     let n = length kinds in
-    let whole : length t.cells ≡ n * n = is.whole ∙ ap (λ ks. length ks * length ks) same in
     let cells : t.cells ≡ (table_of kinds f).cells =
     ext_get_or None t.cells (table_of kinds f).cells (whole ∙ sym (whole-table_of kinds f)) (λ p lt.
     let within : p < n * n = rw whole at lt in
@@ -276,9 +296,12 @@ same_table kinds f t is same each =
     subst (λ q. slice_index_or t.cells q None ≡ slice_index_or (table_of kinds f).cells q None) here (old ∙ sym (entry-table_of kinds f i j row column))) in
     λ k. laid_out (same k) (cells k)
 
+whole_over : (kinds : List Kind) (t : Table) → IsMatrix t → t.kinds ≡ kinds → length t.cells ≡ length kinds * length kinds
+whole_over kinds t is same = is.whole ∙ ap (λ ks. length ks * length ks) same
+
 -- the table of the entries that columns tell
 pub told_table : (kinds : List Kind) (cs : List Column) (t : Table) → IsMatrix t → t.kinds ≡ kinds → AreColumns (length kinds) cs (entry t) → table_of kinds (told_at cs) ≡ t
-told_table kinds cs t is same are = sym (same_table kinds (told_at cs) t is same (λ i j p q. sym (told-Tells (column_at cs j) i (entry t i j) (are.each i j p q))))
+told_table kinds cs t is same are = sym (same_table kinds (told_at cs) t (whole_over kinds t is same) same (λ i j p q. sym (told-Tells (column_at cs j) i (entry t i j) (are.each i j p q))))
 
 -- the entries of columns that are those of a matrix are normal
 pub AreNormal-columns : (kinds : List Kind) (cs : List Column) (t : Table) → IsMatrix t → t.kinds ≡ kinds → AreColumns (length kinds) cs (entry t) → AreNormal kinds cs
@@ -379,4 +402,4 @@ HasColumns-more kinds cs old new m lt matrix enters has = record {
 }
 
 pub HasColumns-all : (kinds : List Kind) (cs : List Column) (t : Table) → HasColumns kinds cs t (length kinds) → t ≡ table_of kinds (told_at cs)
-HasColumns-all kinds cs t has = same_table kinds (told_at cs) t has.matrix has.kinds (λ i j p q. has.entered i j p q q)
+HasColumns-all kinds cs t has = same_table kinds (told_at cs) t (whole_over kinds t has.matrix has.kinds) has.kinds (λ i j p q. has.entered i j p q q)

@@ -9,5 +9,6 @@ pub mod ConjunctLemmas
 pub mod QueryLemmas
 pub mod ColumnLemmas
 pub mod AlongLemmas
+pub mod ProductLemmas
 pub mod MatrixLemmas
 pub mod LedLemmas

@@ -127,7 +127,7 @@ word-at_least g is t u word here leads =
 
 -- ---- unions
 
-join_moves : (a b c : Op) → join_of (join_of a b) c ≡ join_of a (join_of b c)
+pub join_moves : (a b c : Op) → join_of (join_of a b) c ≡ join_of a (join_of b c)
 join_moves a b c = grind (arith)
 
 below_join : (v w : Op) (a b : Option Op) → EntryAtMost (Some v) a → EntryAtMost (Some w) b → EntryAtMost (Some (join_of v w)) (joined a b)
@@ -202,6 +202,11 @@ union_is_matrix g few a kinds (word ∷ words) is =
     let one = word_is_matrix g (one_of g.kinds) word (IsMatrix-one_of g.kinds few) in
     union_is_matrix g few (plus_word g a word) kinds words (IsMatrix-plus_of a (word_matrix g word) (word_kinds g (one_of g.kinds) word ∙ sym kinds) is one)
 
+-- a matrix, times those of conjuncts
+pub spine_is_matrix : (g : SchemaValue) (a : Table) (cs : List ConjunctValue) → IsMatrix a → IsMatrix (fold (times_conjunct g) a cs)
+spine_is_matrix g a [] is = is
+spine_is_matrix g a (c ∷ cs) is = spine_is_matrix g (times_conjunct g a c) cs (IsMatrix-times_of a (conjunct_matrix g c) is)
+
 -- ---- conjuncts and spines
 
 by_star : (star : Bool) (v w : Op) (a b : Table) (t u : ℕ) → (star ≡ false → EntryAtMost (Some v) (entry a t u)) → (star ≡ true → EntryAtMost (Some w) (entry b t u))
@@ -239,7 +244,7 @@ spines-at_least g is a kinds t s u v (c ∷ cs) inside here least (m, first, res
     let same : typed_composition v (conjunct_value g c) (kind_at g.kinds t) (kind_at g.kinds m) ≡ composed = ap (λ x. typed_composition v (conjunct_value g c) (kind_at g.kinds t) (kind_at g.kinds x)) (sym end) in
     spines-at_least g is (times_conjunct g a c) kinds t m u composed cs inside there (subst (λ x. EntryAtMost (Some x) (entry (times_conjunct g a c) t m)) same more) rest
 
-spine_kinds : (g : SchemaValue) (a : Table) (cs : List ConjunctValue) → (fold (times_conjunct g) a cs).kinds ≡ a.kinds
+pub spine_kinds : (g : SchemaValue) (a : Table) (cs : List ConjunctValue) → (fold (times_conjunct g) a cs).kinds ≡ a.kinds
 spine_kinds g a [] = refl
 spine_kinds g a (c ∷ cs) = spine_kinds g (times_conjunct g a c) cs
 

@@ -1,6 +1,7 @@
 pub mod Drawn
 pub mod Values
 pub mod Columns
+pub mod Products
 pub mod Work
 pub mod Wide
 pub mod Query

@@ -16,3 +16,4 @@ pub record IsWork (g : SchemaValue) (w : Work) : Type 0 where
   pub word : length w.word ≡ length g.kinds
   pub longer : length w.longer ≡ length g.kinds
   pub union : length w.union ≡ length g.kinds
+  pub spine : length w.spine ≡ length g.kinds

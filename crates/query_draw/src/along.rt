@@ -28,10 +28,12 @@ pub(crate) struct Work {
     pub edges: Vec<Items<u8>>,
     /// The matrix of a word.
     pub word: Columns,
-    /// The matrix of a word with a further symbol.
+    /// The matrix of a word with a further symbol, or of a spine with a further conjunct.
     pub longer: Columns,
-    /// The join of the matrices of words.
+    /// The join of the matrices of words, and then the matrix of a conjunct.
     pub union: Columns,
+    /// The product of the matrices of conjuncts.
+    pub spine: Columns,
 }
 
 impl Work {
@@ -46,6 +48,7 @@ impl Work {
             word: Columns::new(alloc, count)?,
             longer: Columns::new(alloc, count)?,
             union: Columns::new(alloc, count)?,
+            spine: Columns::new(alloc, count)?,
         })
     }
 }
@@ -89,6 +92,7 @@ pub(crate) fn follow_word(schema: &Schema, word: &[Symbol], work: &mut Work)
     ensures word { AreColumns (length schema.now.kinds) work.new.word (entry (word_matrix schema.now word.now)) }
     ensures work { IsWork schema.now work.new }
     ensures union { work.new.union ≡ work.old.union }
+    ensures spine { work.new.spine ≡ work.old.spine }
 {
     work.word.enter_equal();
     for symbol in word {

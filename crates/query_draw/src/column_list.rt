@@ -1,6 +1,6 @@
 //! Matrices by their columns.
 
-ghost use Rattle.std.specs.Prelude.{◌≡◌, ◌≤◌, ◌<◌, length, slice_set, IfOk};
+ghost use Rattle.std.specs.Prelude.{◌≡◌, ◌≤◌, ◌<◌, ◌↔◌, length, slice_set, IfOk, IsTrue};
 ghost use Rattle.sel_algebra.specs.Table.{types_most, one_at};
 ghost use Rattle.query_draw.specs.Columns.{no_entry, column_at, AreColumns, AreJoined};
 
@@ -93,5 +93,17 @@ impl Columns {
         for t in 0..self.count() {
             self.put(t, joined_column(self.at(t), other.at(t)));
         }
+    }
+    /// Whether all entries are those of another matrix over as many types.
+    pub(crate) fn has_columns_of(&self, other: &Columns) -> bool
+        requires { length self.now ≡ length other.now }
+        ensures { IsTrue result ↔ (self.now ≡ other.now) }
+    {
+        for t in 0..self.count() {
+            if self.at(t) != other.at(t) {
+                return false;
+            }
+        }
+        true
     }
 }

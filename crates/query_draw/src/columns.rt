@@ -3,7 +3,7 @@
 ghost use Rattle.std.specs.Prelude.{◌≡◌, ◌≤◌, ◌<◌, ℕ, length, None, IfOk};
 ghost use Rattle.sel_algebra.specs.Entries.{IsNormalEntry};
 ghost use Rattle.sel_algebra.specs.Table.{types_most, kind_at, IsMatrix, EachPair, entry, table_of};
-ghost use Rattle.query_draw.specs.Columns.{has, is_growing, AreGrowing, no_column, column_at, equal_column, joined_column, followed_column, normal_column, told, told_at, AreNormal, EntersColumn};
+ghost use Rattle.query_draw.specs.Columns.{has, is_growing, AreGrowing, no_column, column_at, equal_column, joined_column, followed_column, normal_column, told, told_op, told_at, AreNormal, EntersColumn};
 
 use crate::column_list::Columns;
 use sel_algebra::{Kind, Matrix, Op};
@@ -141,15 +141,23 @@ fn told(column: Column, t: u8) -> Option<Op>
     if !has(column.there, t) {
         return None;
     }
+    Some(told_op(column, t))
+}
+
+/// The operator that the entry of a column from a type is, where it is there.
+pub(crate) fn told_op(column: Column, t: u8) -> Op
+    requires { t < types_most }
+    ensures { result ≡ told_op (has column.less t) (has column.greater t) (has column.cross t) }
+{
     if has(column.cross, t) {
-        return Some(Op::Cross);
+        return Op::Cross;
     }
-    Some(match (has(column.less, t), has(column.greater, t)) {
+    match (has(column.less, t), has(column.greater, t)) {
         (true, true) => Op::Diamond,
         (true, false) => Op::Less,
         (false, true) => Op::Greater,
         (false, false) => Op::Equal,
-    })
+    }
 }
 
 /// The matrix over types of these kinds with the entries of these columns.

@@ -14,6 +14,7 @@ mod legs;
 mod missing;
 mod paths;
 mod plan;
+mod products;
 mod query;
 mod rules;
 mod wide;

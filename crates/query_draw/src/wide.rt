@@ -2,22 +2,25 @@
 
 ghost use Rattle.std.specs.Prelude.{◌≡◌, ◌≤◌, true, length, take, IfOk, OnOk};
 ghost use Rattle.std.specs.List.{list_all};
-ghost use Rattle.sel_algebra.specs.Table.{IsMatrix};
+ghost use Rattle.sel_algebra.specs.Table.{entry};
 ghost use Rattle.skeletons.specs.Skeleton.{spine_of};
 ghost use Rattle.query_terms.specs.Values.{is_word, is_conjunct, is_rule};
 ghost use Rattle.query_terms.specs.Spans.{cut, lies};
 ghost use Rattle.query_terms.specs.Lists.{words_in, conjunct_in, conjuncts_in, rule_in};
 ghost use Rattle.query_terms.specs.View.{query_value};
+ghost use Rattle.query_draw.specs.Columns.{AreColumns};
 ghost use Rattle.query_draw.specs.Work.{IsWork};
 ghost use Rattle.query_draw.specs.Wide.{union_matrix, conjunct_matrix, spine_matrix, rule_wide, query_wide};
 
 use crate::along::{Work, follow_word};
 use crate::columns::matrix_of;
+use crate::products::{close, multiply};
 use gm_text::Span;
 use query_terms::{Conjunct, Query, Rule};
 use schema_graph::Schema;
-use sel_algebra::{Class, Matrix, Shape, greater_class};
+use sel_algebra::{Class, Shape, greater_class};
 use std::alloc::{AllocError, Global};
+use std::mem;
 
 /// The wide class of a query over a schema, whose edges its symbols name.
 pub(crate) fn wide_class(
@@ -31,9 +34,10 @@ pub(crate) fn wide_class(
     if query.arity() != 2 {
         return Ok(None);
     }
+    let mut work = Work::new(alloc, schema)?;
     let mut wide = None;
     for rule in query.rules {
-        let class = rule_wide(alloc, schema, query, rule)?;
+        let class = rule_wide(alloc, schema, query, rule, &mut work)?;
         wide = greater_class(wide, class);
     }
     Ok(wide)
@@ -45,14 +49,18 @@ fn rule_wide(
     schema: &Schema,
     query: &Query<'_>,
     rule: &Rule,
+    work: &mut Work,
 ) -> Result<Option<Class>, AllocError>
     requires lies { lies (length query.now.conjuncts.now) rule.now.conjuncts ≡ true }
     requires edges { is_rule (length schema.now.edges) (rule_in (conjuncts_in query.now.symbols.now query.now.words.now query.now.conjuncts.now) rule.now) ≡ true }
-    ensures { IfOk result (λ wide. wide ≡ rule_wide schema.now query.now.shape (rule_in (conjuncts_in query.now.symbols.now query.now.words.now query.now.conjuncts.now) rule.now)) }
+    requires work { IsWork schema.now work.old }
+    ensures value { IfOk result (λ wide. wide ≡ rule_wide schema.now query.now.shape (rule_in (conjuncts_in query.now.symbols.now query.now.words.now query.now.conjuncts.now) rule.now)) }
+    ensures work { OnOk result (IsWork schema.now work.new) }
 {
     let conjuncts = cut(query.conjuncts, rule.conjuncts);
     let spine = first(conjuncts, spine_of(query.shape, conjuncts.len()));
-    let matrix = spine_matrix(alloc, schema, query, spine)?;
+    follow_spine(schema, query, spine, work);
+    let matrix = matrix_of(alloc, schema.kinds(), &work.spine)?;
     Ok(matrix.greatest_class())
 }
 
@@ -69,69 +77,65 @@ fn spine_of(shape: Shape, count: usize) -> usize
     }
 }
 
-/// The product of the matrices of conjuncts.
-fn spine_matrix(
-    alloc: Global,
-    schema: &Schema,
-    query: &Query<'_>,
-    conjuncts: &[Conjunct],
-) -> Result<Matrix, AllocError>
+/// Works out the product of the matrices of conjuncts.
+fn follow_spine(schema: &Schema, query: &Query<'_>, conjuncts: &[Conjunct], work: &mut Work)
     requires lie { list_all (λ c. lies (length query.now.words.now) c.words) conjuncts.now ≡ true }
     requires edges { list_all (is_conjunct (length schema.now.edges)) (conjuncts_in query.now.symbols.now query.now.words.now conjuncts.now) ≡ true }
-    ensures { IfOk result (λ matrix. matrix ≡ spine_matrix schema.now (conjuncts_in query.now.symbols.now query.now.words.now conjuncts.now)) }
+    requires work { IsWork schema.now work.old }
+    ensures spine { AreColumns (length schema.now.kinds) work.new.spine (entry (spine_matrix schema.now (conjuncts_in query.now.symbols.now query.now.words.now conjuncts.now))) }
+    ensures work { IsWork schema.now work.new }
 {
-    let mut work = Work::new(alloc, schema)?;
-    let mut matrix = Matrix::one(alloc, schema.kinds())?;
+    work.spine.enter_equal();
     for conjunct in conjuncts {
-        let next = conjunct_matrix(alloc, schema, query, conjunct, &mut work)?;
-        matrix = matrix.times(alloc, &next)?;
+        follow_conjunct(schema, query, conjunct, work);
+        multiply(
+            schema.kinds(),
+            work.growing,
+            &work.spine,
+            &work.union,
+            &mut work.longer,
+        );
+        mem::swap(&mut work.spine, &mut work.longer);
     }
-    Ok(matrix)
 }
 
-/// The matrix of a conjunct: the join of its words, and the closure of that where it is starred.
-fn conjunct_matrix(
-    alloc: Global,
-    schema: &Schema,
-    query: &Query<'_>,
-    conjunct: &Conjunct,
-    work: &mut Work,
-) -> Result<Matrix, AllocError>
+/// Works out the matrix of a conjunct: the join of its words, and the closure of that where it is starred.
+fn follow_conjunct(schema: &Schema, query: &Query<'_>, conjunct: &Conjunct, work: &mut Work)
     requires lies { lies (length query.now.words.now) conjunct.now.words ≡ true }
     requires edges { is_conjunct (length schema.now.edges) (conjunct_in (words_in query.now.symbols.now query.now.words.now) conjunct.now) ≡ true }
     requires work { IsWork schema.now work.old }
-    ensures value { IfOk result (λ matrix. matrix ≡ conjunct_matrix schema.now (conjunct_in (words_in query.now.symbols.now query.now.words.now) conjunct.now)) }
-    ensures work { OnOk result (IsWork schema.now work.new) }
+    ensures union { AreColumns (length schema.now.kinds) work.new.union (entry (conjunct_matrix schema.now (conjunct_in (words_in query.now.symbols.now query.now.words.now) conjunct.now))) }
+    ensures work { IsWork schema.now work.new }
+    ensures spine { work.new.spine ≡ work.old.spine }
 {
     let words = cut(query.words, conjunct.words);
-    let union = union_matrix(alloc, schema, query, words, work)?;
+    join_words(schema, query, words, work);
     if conjunct.star {
-        union.closure(alloc)
-    } else {
-        Ok(union)
+        close(
+            schema.kinds(),
+            work.growing,
+            &work.union,
+            &mut work.word,
+            &mut work.longer,
+        );
+        mem::swap(&mut work.union, &mut work.word);
     }
 }
 
-/// The join of the matrices of words.
-fn union_matrix(
-    alloc: Global,
-    schema: &Schema,
-    query: &Query<'_>,
-    words: &[Span],
-    work: &mut Work,
-) -> Result<Matrix, AllocError>
+/// Works out the join of the matrices of words.
+fn join_words(schema: &Schema, query: &Query<'_>, words: &[Span], work: &mut Work)
     requires lie { list_all (lies (length query.now.symbols.now)) words.now ≡ true }
     requires edges { list_all (is_word (length schema.now.edges)) (words_in query.now.symbols.now words.now) ≡ true }
     requires work { IsWork schema.now work.old }
-    ensures value { IfOk result (λ matrix. matrix ≡ union_matrix schema.now (words_in query.now.symbols.now words.now)) }
-    ensures work { OnOk result (IsWork schema.now work.new) }
+    ensures union { AreColumns (length schema.now.kinds) work.new.union (entry (union_matrix schema.now (words_in query.now.symbols.now words.now))) }
+    ensures work { IsWork schema.now work.new }
+    ensures spine { work.new.spine ≡ work.old.spine }
 {
     work.union.clear();
     for span in words {
         follow_word(schema, cut(query.symbols, *span), work);
         work.union.join(&work.word);
     }
-    matrix_of(alloc, schema.kinds(), &work.union)
 }
 
 /// The first items of a list.

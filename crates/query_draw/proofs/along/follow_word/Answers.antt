@@ -25,8 +25,10 @@ loop-symbol-init c =
         word = one.whole;
         longer = c.requires.work.longer;
         union = c.requires.work.union;
+        spine = c.requires.work.spine;
       };
       union = refl;
+      spine = refl;
     }
 
 pub follow_symbol-requires-clause-edges : goal.follow_symbol-requires-clause-edges
@@ -62,6 +64,8 @@ loop-symbol-preserved c =
         word = ap length swapped ∙ c.follow_symbol.ensures.whole;
         longer = ap length c.swap.ensures.y_after ∙ kept.work.word;
         union = kept.work.union;
+        spine = kept.work.spine;
       };
       union = kept.union;
+      spine = kept.spine;
     }

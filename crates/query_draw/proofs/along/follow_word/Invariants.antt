@@ -11,4 +11,5 @@ invariant-loop-symbol l = record {
   word : AreColumns (length l.schema.kinds) l.work.word (entry (fold (times_symbol l.schema) (one_of l.schema.kinds) (take l.symbol-index l.word)));
   work : IsWork l.schema l.work;
   union : l.work.union ≡ l.fn.work.union;
+  spine : l.work.spine ≡ l.fn.work.spine;
 }

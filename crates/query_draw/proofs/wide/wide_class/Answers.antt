@@ -29,7 +29,8 @@ loop-rule-preserved c =
     let f = rule_wide c.args.schema.now q.shape in
     let within = subst (λ n. i < n) (sym (length-map q.rules.now whole)) c.loop-rule-test.true in
     record {
+      work = c.in_ok-class.ensures.work;
       so_far =
           greatest_more f (greatest_of (map f (query_value q).rules)) c.loop-rule.wide c.greater_class-wide.result (query_value q).rules i _ within c.loop-rule.invariant.so_far
-          (c.greater_class-wide.ensures ∙ ap (greater_class c.loop-rule.wide) (c.in_ok-class.ensures ∙ ap f (sym (got_mapped whole q.rules.now i _))));
+          (c.greater_class-wide.ensures ∙ ap (greater_class c.loop-rule.wide) (c.in_ok-class.ensures.value ∙ ap f (sym (got_mapped whole q.rules.now i _))));
     }

@@ -1,16 +1,16 @@
 use Rattle.std.proofs.Common.{◌≡◌, length, take, true, refl, sym, ap, subst, ◌∙◌}
 use Rattle.std.specs.List.{fold, list_all}
 use Rattle.std.proofs.lemmas.List.{take_all}
-use Rattle.sel_algebra.specs.Table.{entry, zero_of, plus_of, table_of}
-use Rattle.sel_algebra.proofs.TableLemmas.{entry-plus_of, IsMatrix-zero_of}
+use Rattle.sel_algebra.specs.Table.{entry, zero_of, plus_of}
+use Rattle.sel_algebra.proofs.TableLemmas.{entry-plus_of}
 use Rattle.query_terms.specs.Values.{has_edge}
 use Rattle.query_terms.specs.Lists.{words_in}
-use Rattle.query_draw.specs.Columns.{no_entry, AreColumns, AreJoined, told_at, AreNormal}
+use Rattle.query_draw.specs.Columns.{no_entry, AreColumns, AreJoined}
 use Rattle.query_draw.specs.Wide.{word_matrix, plus_word, union_matrix}
-use Rattle.query_draw.proofs.ColumnLemmas.{AreColumns-same, AreColumns-table_of, AreColumns-joined, AreNormal-columns, told_table}
-use Rattle.query_draw.proofs.WideLemmas.{union_kinds, union_is_matrix}
-use Rattle.query_draw.proofs.MatrixLemmas.{word_edges, union_more, if_ok}
-use Rattle.query_draw.proofs.wide.union_matrix.Goals as goal
+use Rattle.query_draw.proofs.ColumnLemmas.{AreColumns-same, AreColumns-table_of, AreColumns-joined}
+use Rattle.query_draw.proofs.WideLemmas.{union_kinds}
+use Rattle.query_draw.proofs.MatrixLemmas.{word_edges, union_more}
+use Rattle.query_draw.proofs.wide.join_words.Goals as goal
 
 pub loop-span-init : goal.loop-span-init
 loop-span-init c =
@@ -26,7 +26,9 @@ loop-span-init c =
         word = c.requires.work.word;
         longer = c.requires.work.longer;
         union = none.whole;
+        spine = c.requires.work.spine;
       };
+      spine = refl;
     }
 
 pub follow_word-requires-clause-edges : goal.follow_word-requires-clause-edges
@@ -62,26 +64,13 @@ loop-span-preserved c =
         word = follows.work.word;
         longer = follows.work.longer;
         union = sum.whole;
+        spine = follows.work.spine;
       };
+      spine = follows.spine ∙ kept.spine;
     }
 
-pub matrix_of-requires-clause-normal : goal.matrix_of-requires-clause-normal
-matrix_of-requires-clause-normal c =
+pub returns-clause-union : goal.returns-clause-union
+returns-clause-union c =
     let g = c.args.schema.now in
-    let words = words_in c.args.query.now.symbols.now (take c.loop-span.span-index c.args.words.now) in
-    let t = fold (plus_word g) (zero_of g.kinds) words in
-    subst (λ ks. AreNormal ks c.loop-span.work.union) (sym c.kinds.ensures.kinds)
-    (AreNormal-columns g.kinds c.loop-span.work.union t (union_is_matrix g c.loop-span.invariant.work.few (zero_of g.kinds) refl words (IsMatrix-zero_of g.kinds c.loop-span.invariant.work.few)) (union_kinds g (zero_of g.kinds) words) c.loop-span.invariant.join)
-
-pub returns-clause-value : goal.returns-clause-value
-returns-clause-value c =
-    let g = c.args.schema.now in
-    let symbols = c.args.query.now.symbols.now in
-    let some = words_in symbols (take c.loop-span.span-index c.args.words.now) in
-    let t = fold (plus_word g) (zero_of g.kinds) some in
-    let cs = c.loop-span.work.union in
-    let table = told_table g.kinds cs t (union_is_matrix g c.loop-span.invariant.work.few (zero_of g.kinds) refl some (IsMatrix-zero_of g.kinds c.loop-span.invariant.work.few)) (union_kinds g (zero_of g.kinds) some) c.loop-span.invariant.join in
-    let all = ap (λ ws. union_matrix g (words_in symbols ws)) (take_all c.loop-span.span-index c.args.words.now c.loop-span-test.false) in
-    let given = ap (λ ks. table_of ks (told_at cs)) c.kinds.ensures.kinds in
-    if_ok (λ m. m ≡ table_of c.kinds.result.now (told_at cs)) (λ m. m ≡ union_matrix g (words_in symbols c.args.words.now))
-    (λ m is. is ∙ (given ∙ (table ∙ all))) c.matrix_of.result c.matrix_of.ensures
+    let all = ap (λ ws. union_matrix g (words_in c.args.query.now.symbols.now ws)) (take_all c.loop-span.span-index c.args.words.now c.loop-span-test.false) in
+    subst (λ m. AreColumns (length g.kinds) c.loop-span.work.union (entry m)) all c.loop-span.invariant.join
