@@ -17,7 +17,7 @@ use Rattle.sparql_emit.specs.declared.paths.Todo.{Todo}
 use Rattle.sparql_emit.specs.declared.paths.Todo.TheVariants as todo
 use Rattle.sparql_emit.specs.PathText.{in_parentheses, is_alt, is_seq, path_text_of}
 use Rattle.sparql_emit.specs.Laws.{has_names}
-use Rattle.sparql_emit.specs.Todo.{is_alt_at, is_seq_at, nested, step_text, step_names, parts, item_text, todo_text, item_names, item_fits, tree_weight, item_weight, todo_weight}
+use Rattle.sparql_emit.specs.Todo.{is_alt_at, is_seq_at, nested, after, step_text, step_names, parts, item_text, todo_text, item_names, item_fits, tree_weight, item_weight, todo_weight}
 
 -- ---- the tree of a term that is in the store
 
@@ -90,6 +90,18 @@ module _ (names : List (List ℕ)) (trees : List Tree) where
   nested_fits count true id less = and_true (lt-ltb id count less) refl
   nested_fits count false id less = and_true (lt-ltb id count less) refl
 
+  after_text : (byte : ℕ) (b : Bool) (id : ℕ) → todo_text names trees (after byte b id) ≡ byte ∷ in_parentheses b (path_text_of names (tree_in trees id))
+  after_text byte true id = refl
+  after_text byte false id = refl
+
+  after_names : (byte : ℕ) (b : Bool) (id : ℕ) → list_all (item_names names trees) (after byte b id) ≡ true → has_names names (tree_in trees id) ≡ true
+  after_names byte true id named = (and_parts (has_names names (tree_in trees id)) true named).0
+  after_names byte false id named = (and_parts (has_names names (tree_in trees id)) true named).0
+
+  after_fits : (count byte : ℕ) (b : Bool) (id : ℕ) → id < count → list_all (item_fits count) (after byte b id) ≡ true
+  after_fits count byte true id less = and_true (lt-ltb id count less) refl
+  after_fits count byte false id less = and_true (lt-ltb id count less) refl
+
 -- ---- what the text of a term consists of
 
 module _ (names : List (List ℕ)) (terms : List Term) (store : IsStore terms) where
@@ -104,13 +116,12 @@ module _ (names : List (List ℕ)) (terms : List Term) (store : IsStore terms) w
       rw here.at (seq_of (trees_of terms) here.term ∙ ap is_seq (sym (tree_is terms k here.term store here.at)))
 
   joined_text : (a b : Bool) (first second sign : ℕ)
-      → todo_text names (trees_of terms) (nested b second ++ (todo.Byte sign ∷ nested a first))
+      → todo_text names (trees_of terms) (after sign b second ++ nested a first)
       ≡ in_parentheses a (path_text_of names (tree_at terms first)) ++ (sign ∷ in_parentheses b (path_text_of names (tree_at terms second)))
   joined_text a b first second sign =
       let trees = trees_of terms in
-      todo_text-append names trees (nested b second) (todo.Byte sign ∷ nested a first)
-      ∙ ((λ i. (nested_text names trees a first i ++ sign ∷ []) ++ nested_text names trees b second i)
-      ∙ append_assoc (in_parentheses a (path_text_of names (tree_at terms first))) (sign ∷ []) (in_parentheses b (path_text_of names (tree_at terms second))))
+      todo_text-append names trees (after sign b second) (nested a first)
+      ∙ (λ i. nested_text names trees a first i ++ after_text names trees sign b second i)
 
   parts_text : (t : Term) → ChildrenBelow (length terms) t → step_text names t ++ todo_text names (trees_of terms) (parts terms t) ≡ path_text_of names (tree_of (trees_of terms) t)
   parts_text (Step label back) below = append-nil (path_text_of names (Tree.Step label back))
@@ -124,12 +135,12 @@ module _ (names : List (List ℕ)) (terms : List Term) (store : IsStore terms) w
   parts_text (Star a) below = λ i. 40 ∷ append_assoc (path_text_of names (tree_at terms a)) (41 ∷ []) (42 ∷ []) i
   parts_text (Opt a) below = λ i. 40 ∷ append_assoc (path_text_of names (tree_at terms a)) (41 ∷ []) (63 ∷ []) i
 
-  joined_names : (a b : Bool) (first second sign : ℕ) → list_all (item_names names (trees_of terms)) (nested b second ++ (todo.Byte sign ∷ nested a first)) ≡ true
+  joined_names : (a b : Bool) (first second sign : ℕ) → list_all (item_names names (trees_of terms)) (after sign b second ++ nested a first) ≡ true
       → (has_names names (tree_at terms first) && has_names names (tree_at terms second)) ≡ true
   joined_names a b first second sign named =
       let test = item_names names (trees_of terms) in
-      let both = and_parts (list_all test (nested b second)) (list_all test (nested a first)) (sym (list_all-append test (nested b second) (todo.Byte sign ∷ nested a first)) ∙ named) in
-      and_true (nested_names names (trees_of terms) a first both.1) (nested_names names (trees_of terms) b second both.0)
+      let both = and_parts (list_all test (after sign b second)) (list_all test (nested a first)) (sym (list_all-append test (after sign b second) (nested a first)) ∙ named) in
+      and_true (nested_names names (trees_of terms) a first both.1) (after_names names (trees_of terms) sign b second both.0)
 
   parts_names : (t : Term) → step_names names t ≡ true → list_all (item_names names (trees_of terms)) (parts terms t) ≡ true
       → has_names names (tree_of (trees_of terms) t) ≡ true
@@ -140,11 +151,11 @@ module _ (names : List (List ℕ)) (terms : List Term) (store : IsStore terms) w
   parts_names (Opt a) step named = (and_parts _ true named).0
 
   joined_fits : (a b : Bool) (first second sign : ℕ) → first < length terms → second < length terms
-      → list_all (item_fits (length terms)) (nested b second ++ (todo.Byte sign ∷ nested a first)) ≡ true
+      → list_all (item_fits (length terms)) (after sign b second ++ nested a first) ≡ true
   joined_fits a b first second sign one two =
       let test = item_fits (length terms) in
-      list_all-append test (nested b second) (todo.Byte sign ∷ nested a first)
-      ∙ and_true (nested_fits names (trees_of terms) (length terms) b second two) (nested_fits names (trees_of terms) (length terms) a first one)
+      list_all-append test (after sign b second) (nested a first)
+      ∙ and_true (after_fits names (trees_of terms) (length terms) sign b second two) (nested_fits names (trees_of terms) (length terms) a first one)
 
   parts_fit : (t : Term) → ChildrenBelow (length terms) t → list_all (item_fits (length terms)) (parts terms t) ≡ true
   parts_fit (Step label back) below = refl
@@ -173,6 +184,11 @@ module _ (names : List (List ℕ)) (terms : List Term) where
   pub writing_done : (all : List ℕ) (named : Bool) (out : List ℕ) → Writing all named out [] → (out ≡ all) × (named ≡ true)
   writing_done all named out w = (sym (append-nil out) ∙ w.whole, w.names_are refl)
 
+-- a last item in the place of another of which the test says the same
+all_same : (p : Todo → Bool) (before : List Todo) (one other : Todo) → p one ≡ p other → list_all p (before ++ one ∷ []) ≡ list_all p (before ++ other ∷ [])
+all_same p before one other same =
+    list_all-append p before (one ∷ []) ∙ (ap (λ b. list_all p before && (b && true)) same ∙ sym (list_all-append p before (other ∷ [])))
+
 module _ (names : List (List ℕ)) (terms : List Term) (store : IsStore terms) (all : List ℕ) (named : Bool) (out : List ℕ) (items before : List Todo) where
   -- the last item is written
   pub item_written : (item : Todo) (more : List ℕ) → Writing names terms all named out items → items ≡ before ++ item ∷ []
@@ -188,6 +204,22 @@ module _ (names : List (List ℕ)) (terms : List Term) (store : IsStore terms) (
             (ap (list_all (item_names names trees)) is ∙ (list_all-append (item_names names trees) before (item ∷ []) ∙ and_true each (and_true name refl)));
         fit = (and_parts (list_all (item_fits (length terms)) before) _
             (sym (list_all-append (item_fits (length terms)) before (item ∷ [])) ∙ (ap (list_all (item_fits (length terms))) (sym is) ∙ w.fit))).0;
+      }
+
+  -- the byte of the last item is written, and its term is left
+  pub byte_written : (byte id : ℕ) (more : List ℕ) → Writing names terms all named out items → items ≡ before ++ todo.After byte id ∷ [] → more ≡ out ++ byte ∷ []
+      → Writing names terms all named more (before ++ todo.Path id ∷ [])
+  byte_written byte id more w is said =
+      let trees = trees_of terms in
+      let text = path_text_of names (tree_at terms id) in
+      record {
+        whole = (λ i. said i ++ todo_text-append names trees before (todo.Path id ∷ []) i)
+            ∙ (append_assoc out (byte ∷ []) (text ++ todo_text names trees before)
+            ∙ (ap (λ (bs : List ℕ). out ++ bs) (sym (todo_text-append names trees before (todo.After byte id ∷ [])))
+            ∙ (ap (λ xs. out ++ todo_text names trees xs) (sym is) ∙ w.whole)));
+        names_are = λ each. w.names_are
+            (ap (list_all (item_names names trees)) is ∙ (all_same (item_names names trees) before (todo.After byte id) (todo.Path id) refl ∙ each));
+        fit = all_same (item_fits (length terms)) before (todo.Path id) (todo.After byte id) refl ∙ (ap (list_all (item_fits (length terms))) (sym is) ∙ w.fit);
       }
 
   -- of the last item's term a step is written, or it is replaced by what its term consists of
@@ -231,16 +263,20 @@ module _ (trees : List Tree) where
   nested_weight true id = omega arith
   nested_weight false id = omega arith
 
+  after_weight : (byte : ℕ) (b : Bool) (id : ℕ) → todo_weight trees (after byte b id) < 4 + tree_weight (tree_in trees id)
+  after_weight byte true id = omega arith
+  after_weight byte false id = omega arith
+
 module _ (terms : List Term) where
   parts_weight : (t : Term) → todo_weight (trees_of terms) (parts terms t) < tree_weight (tree_of (trees_of terms) t)
   parts_weight (Step label back) = omega arith
   parts_weight (Seq a b) =
       let trees = trees_of terms in
       let one = is_alt_at terms b || is_seq_at terms b in
-      omega (arith, todo_weight-append trees (nested one b) (todo.Byte 47 ∷ nested (is_alt_at terms a) a), nested_weight trees one b, nested_weight trees (is_alt_at terms a) a)
+      omega (arith, todo_weight-append trees (after 47 one b) (nested (is_alt_at terms a) a), after_weight trees 47 one b, nested_weight trees (is_alt_at terms a) a)
   parts_weight (Alt a b) =
       let trees = trees_of terms in
-      omega (arith, todo_weight-append trees (nested (is_alt_at terms b) b) (todo.Byte 124 ∷ todo.Path a ∷ []), nested_weight trees (is_alt_at terms b) b)
+      omega (arith, todo_weight-append trees (after 124 (is_alt_at terms b) b) (todo.Path a ∷ []), after_weight trees 124 (is_alt_at terms b) b)
   parts_weight (Star a) = omega arith
   parts_weight (Opt a) = omega arith
 
@@ -260,6 +296,20 @@ module _ (terms : List Term) where
           ap (todo_weight trees) now_is,
           todo_weight-append trees before (parts terms t),
           todo_weight-append trees before (todo.Path id ∷ []),
+          parts_weight t,
+          ap tree_weight (tree_is terms id t store at),
+        )
+
+    pub after_lighter : (byte id : ℕ) (t : Term) (now : List Todo) → items ≡ before ++ todo.After byte id ∷ [] → slice_get terms id ≡ Some t → now ≡ before ++ parts terms t
+        → todo_weight (trees_of terms) now < todo_weight (trees_of terms) items
+    after_lighter byte id t now is at now_is =
+        let trees = trees_of terms in
+        omega (
+          arith,
+          ap (todo_weight trees) is,
+          ap (todo_weight trees) now_is,
+          todo_weight-append trees before (parts terms t),
+          todo_weight-append trees before (todo.After byte id ∷ []),
           parts_weight t,
           ap tree_weight (tree_is terms id t store at),
         )

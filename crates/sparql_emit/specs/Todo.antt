@@ -1,6 +1,7 @@
 -- What is still to be written of a path's text, as a list of which the last is written first.
 --   is_alt_at, is_seq_at terms id    the term with a number is a choice, or a sequence
 --   nested needed id                 a term, in parentheses where they are needed
+--   after byte needed id             a byte, and then such a term
 --   signed id sign                   a term in parentheses, with a sign behind them
 --   step_text names t                the text of a step, and of another term no byte
 --   step_names names t               the label of a step has a name
@@ -38,7 +39,12 @@ is_seq_at terms id = is_seq_term (slice_get terms id)
 -- a term, in parentheses where they are needed
 abbrev pub nested : Bool → ℕ → List Todo
 nested false id = todo.Path id ∷ []
-nested true id = todo.Byte 41 ∷ todo.Path id ∷ todo.Byte 40 ∷ []
+nested true id = todo.Byte 41 ∷ todo.After 40 id ∷ []
+
+-- a byte, and then a term, in parentheses where they are needed
+abbrev pub after : ℕ → Bool → ℕ → List Todo
+after byte false id = todo.After byte id ∷ []
+after byte true id = nested true id ++ todo.Byte byte ∷ []
 
 -- a term in parentheses, with a sign behind them
 abbrev pub signed : ℕ → ℕ → List Todo
@@ -62,14 +68,15 @@ step_names names (Opt child) = true
 -- what the text of another term consists of, from its end
 abbrev pub parts : List Term → Term → List Todo
 parts terms (Step label back) = []
-parts terms (Seq first second) = nested (is_alt_at terms second || is_seq_at terms second) second ++ (todo.Byte 47 ∷ nested (is_alt_at terms first) first)
-parts terms (Alt left right) = nested (is_alt_at terms right) right ++ (todo.Byte 124 ∷ todo.Path left ∷ [])
+parts terms (Seq first second) = after 47 (is_alt_at terms second || is_seq_at terms second) second ++ nested (is_alt_at terms first) first
+parts terms (Alt left right) = after 124 (is_alt_at terms right) right ++ todo.Path left ∷ []
 parts terms (Star child) = signed child 42
 parts terms (Opt child) = signed child 63
 
 abbrev pub item_text : List (List ℕ) → List Tree → Todo → List ℕ
 item_text names trees (todo.Byte byte) = byte ∷ []
 item_text names trees (todo.Path id) = path_text_of names (tree_in trees id)
+item_text names trees (todo.After byte id) = byte ∷ path_text_of names (tree_in trees id)
 
 -- the last is written first
 abbrev pub todo_text : List (List ℕ) → List Tree → List Todo → List ℕ
@@ -79,10 +86,12 @@ todo_text names trees (item ∷ items) = todo_text names trees items ++ item_tex
 abbrev pub item_names : List (List ℕ) → List Tree → Todo → Bool
 item_names names trees (todo.Byte byte) = true
 item_names names trees (todo.Path id) = has_names names (tree_in trees id)
+item_names names trees (todo.After byte id) = has_names names (tree_in trees id)
 
 abbrev pub item_fits : ℕ → Todo → Bool
 item_fits terms (todo.Byte byte) = true
 item_fits terms (todo.Path id) = nat_lt id terms
+item_fits terms (todo.After byte id) = nat_lt id terms
 
 -- more than that of what a tree consists of
 abbrev pub tree_weight : Tree → ℕ
@@ -95,6 +104,7 @@ tree_weight (Tree.Opt child) = 4 + tree_weight child
 abbrev pub item_weight : List Tree → Todo → ℕ
 item_weight trees (todo.Byte byte) = 1
 item_weight trees (todo.Path id) = tree_weight (tree_in trees id)
+item_weight trees (todo.After byte id) = 1 + tree_weight (tree_in trees id)
 
 -- how much there is to do
 abbrev pub todo_weight : List Tree → List Todo → ℕ

@@ -1,13 +1,13 @@
 //! The text of a path.
 
-ghost use Rattle.std.specs.Prelude.{◌≡◌, ◌<◌, ◌++◌, true, length, OnOk};
+ghost use Rattle.std.specs.Prelude.{◌≡◌, ◌<◌, ◌++◌, ◌||◌, true, length, OnOk};
 ghost use Rattle.std.specs.List.{list_all};
 ghost use Rattle.path_pairs.specs.Trees.Tree.{Step};
 ghost use Rattle.query_terms.specs.Store.{ChildrenBelow};
 ghost use Rattle.query_terms.specs.Trees.{tree_at};
 ghost use Rattle.sparql_emit.specs.PathText.{path_text_of};
 ghost use Rattle.sparql_emit.specs.Laws.{has_label, has_names};
-ghost use Rattle.sparql_emit.specs.Todo.{is_alt_at, is_seq_at, nested, signed, step_text, step_names, parts};
+ghost use Rattle.sparql_emit.specs.Todo.{is_alt_at, is_seq_at, nested, after, signed, step_text, step_names, parts};
 
 use gm_text::Names;
 use query_terms::{Term, TermId, TermStore};
@@ -20,6 +20,8 @@ enum Todo {
     Byte(u8),
     /// The text of the term with this number.
     Path(TermId),
+    /// This byte, and then the text of the term with this number.
+    After(u8, TermId),
 }
 
 /// Appends the text of a term's path. Each label of the store's terms has one of these names.
@@ -45,6 +47,10 @@ pub fn path_text(
         match next {
             Todo::Byte(byte) => out.push(byte)?,
             Todo::Path(id) => write_term(out, &mut todo, terms, terms.get(id), labels)?,
+            Todo::After(byte, id) => {
+                out.push(byte)?;
+                write_term(out, &mut todo, terms, terms.get(id), labels)?;
+            }
         }
     }
     Ok(())
@@ -67,13 +73,11 @@ fn write_term(
     match term {
         Term::Step { label, back } => write_step(out, label, back, labels)?,
         Term::Seq(first, second) => {
-            push_nested(todo, is_alt(terms, second) || is_seq(terms, second), second)?;
-            todo.push(Todo::Byte(b'/'))?;
+            push_after(todo, b'/', is_alt_or_seq(terms, second), second)?;
             push_nested(todo, is_alt(terms, first), first)?;
         }
         Term::Alt(left, right) => {
-            push_nested(todo, is_alt(terms, right), right)?;
-            todo.push(Todo::Byte(b'|'))?;
+            push_after(todo, b'|', is_alt(terms, right), right)?;
             todo.push(Todo::Path(left))?;
         }
         Term::Star(child) => push_signed(todo, child, b'*')?,
@@ -112,8 +116,20 @@ fn push_nested(todo: &mut Vec<Todo>, needed: bool, id: TermId) -> Result<(), All
         return Ok(());
     }
     todo.push(Todo::Byte(b')'))?;
-    todo.push(Todo::Path(id))?;
-    todo.push(Todo::Byte(b'('))?;
+    todo.push(Todo::After(b'(', id))?;
+    Ok(())
+}
+
+/// Adds a byte, and then a term, in parentheses where they are needed.
+fn push_after(todo: &mut Vec<Todo>, byte: u8, needed: bool, id: TermId) -> Result<(), AllocError>
+    ensures { OnOk result (todo.new.items ≡ todo.old.items ++ after byte needed id) }
+{
+    if !needed {
+        todo.push(Todo::After(byte, id))?;
+        return Ok(());
+    }
+    push_nested(todo, true, id)?;
+    todo.push(Todo::Byte(byte))?;
     Ok(())
 }
 
@@ -125,10 +141,10 @@ fn is_alt(terms: &TermStore<'_>, id: TermId) -> bool
     matches!(terms.get(id), Term::Alt(_, _))
 }
 
-/// Whether the term is two in sequence.
-fn is_seq(terms: &TermStore<'_>, id: TermId) -> bool
+/// Whether the term is a choice of two, or two in sequence.
+fn is_alt_or_seq(terms: &TermStore<'_>, id: TermId) -> bool
     requires { id < length terms.now }
-    ensures { result ≡ is_seq_at terms.now id }
+    ensures { result ≡ (is_alt_at terms.now id || is_seq_at terms.now id) }
 {
-    matches!(terms.get(id), Term::Seq(_, _))
+    matches!(terms.get(id), Term::Alt(_, _) | Term::Seq(_, _))
 }

@@ -17,6 +17,12 @@ use gm_text::{Names, write_decimal};
 use query_terms::{Conjunct, Query, Rule, Span, TermStore};
 use std::alloc::{AllocError, Global};
 
+/// The room for a step, one for each term. A name of up to 13 bytes takes no more, between `^:` and `/`.
+const STEP_ROOM: usize = 16;
+
+/// The room for the variables of some rules, and for what stands around them.
+const REST_ROOM: usize = 1024;
+
 /// The text of a query, whose labels have these names. It has a reading, and over every graph the rows of what is read
 /// are the query's rows.
 ///
@@ -28,7 +34,8 @@ pub fn sparql_text(alloc: Global, query: &Query<'_>, labels: &Names) -> Result<V
     ensures reading { IfOk result (λ text. IsSparql text.items (printed_of labels.now (query_value query.now))) }
     ensures rows { OnOk result (HasQueryRows labels.now (query_value query.now)) }
 {
-    let mut out = Vec::new(alloc);
+    let room = query.terms.len() as usize * STEP_ROOM + REST_ROOM;
+    let mut out = Vec::with_capacity(alloc, room)?;
     out.extend_from_slice(b"PREFIX : <http://gmark.example/>\n")?;
     write_heads(alloc, &mut out, query.arity())?;
     write_rules(

@@ -12,6 +12,12 @@ use crate::tables::put_tables;
 use query_terms::TermStore;
 use std::alloc::{AllocError, Global};
 
+/// The room for a line of the tables. A sequence or a choice takes no more, with numbers of up to five digits.
+const LINE_ROOM: usize = 104;
+
+/// The room for some rules, and for what stands around the tables.
+const REST_ROOM: usize = 1024;
+
 /// The text of the tables of terms, and of rules over them.
 pub fn links_text(
     alloc: Global,
@@ -24,7 +30,8 @@ pub fn links_text(
     ensures tables { IfOk result (λ text. HasTables text.items terms.now) }
     ensures rows { IfOk result (λ text. HasRows text.items (λ graph row. IsLinksRow graph terms.now rules.now row)) }
 {
-    let mut out = Vec::new(alloc);
+    let room = terms.len() as usize * LINE_ROOM + REST_ROOM;
+    let mut out = Vec::with_capacity(alloc, room)?;
     out.extend_from_slice(b"WITH RECURSIVE\n")?;
     put_tables(alloc, &mut out, terms)?;
     out.extend_from_slice(b"\n")?;

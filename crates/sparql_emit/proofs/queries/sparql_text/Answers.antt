@@ -24,7 +24,7 @@ returns-clause-text c =
     let q = c.args.query.now in
     let lines = lines_same c.args.labels.now q.labels.now q.symbols.now q.words.now q.conjuncts.now q.rules.now q.terms q.rules_cover q.rules_are q.terms_are q.numbers_are in
     three_written _ _ _ _ _ _ _
-    (c.in_ok-extend_from_slice.ensures.items ∙ ap (λ (bs : List ℕ). bs ++ codes "PREFIX : <http://gmark.example/>\n") c.new-out.ensures.items)
+    (c.in_ok-extend_from_slice.ensures.items ∙ ap (λ (bs : List ℕ). bs ++ codes "PREFIX : <http://gmark.example/>\n") c.in_ok-out.ensures.items)
     (c.in_ok-write_heads.ensures ∙ ap (λ n. c.extend_from_slice.new.self.items ++ heads_line n) c.arity.ensures)
     (c.in_ok-write_rules.ensures.text ∙ ap (λ (bs : List ℕ). c.write_heads.new.out.items ++ bs) lines)
     c.in_ok-extend_from_slice-2.ensures.items

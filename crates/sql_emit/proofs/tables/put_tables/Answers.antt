@@ -1,7 +1,5 @@
-use Rattle.std.proofs.Common.{refl, ap, ◌∙◌, ◌++◌, List, ℕ, codes}
-use Rattle.std.proofs.lemmas.List.{append_assoc}
+use Rattle.std.proofs.Common.{refl}
 use Rattle.sql_emit.specs.Laws.{label_fits}
-use Rattle.sql_emit.specs.Text.{term_line}
 use Rattle.sql_emit.proofs.WriteLemmas.{lines_start, lines_next, all_more}
 use Rattle.sql_emit.proofs.tables.put_tables.Goals as goal
 
@@ -11,10 +9,8 @@ loop-n-init c = record { text = lines_start c.args.terms.now _ _ c.in_ok-extend_
 pub loop-n-preserved : goal.loop-n-preserved
 loop-n-preserved c =
     let at = rw c.id-id.ensures at c.get.ensures in
-    let line = term_line (c.get.result, c.loop-n.n) in
     let written = rw c.id-id.ensures at c.in_ok-put_line.ensures.text in
-    let next = written ∙ ap (λ (bs : List ℕ). bs ++ line) c.in_ok-extend_from_slice-2.ensures.items ∙ append_assoc c.loop-n.out.items (codes ",\n") line in
     record {
-      text = lines_next c.args.terms.now c.loop-n.n c.get.result _ _ _ at c.loop-n.invariant.text next;
+      text = lines_next c.args.terms.now c.loop-n.n c.get.result _ _ _ at c.loop-n.invariant.text written;
       labels = all_more label_fits c.args.terms.now c.loop-n.n c.get.result at c.loop-n.invariant.labels c.in_ok-put_line.ensures.label;
     }

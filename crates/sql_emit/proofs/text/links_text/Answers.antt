@@ -20,7 +20,7 @@ printable c = record {
 
 written : (c : goal.In_ok-extend_from_slice-3) → c.extend_from_slice-3.new.self.items ≡ links_text_of c.args.terms.now c.args.rules.now
 written c =
-    five_written [] _ _ _ _ _ (codes "WITH RECURSIVE\n") _ _ _ _ (rw c.new-out.ensures.items at c.in_ok-extend_from_slice.ensures.items)
+    five_written [] _ _ _ _ _ (codes "WITH RECURSIVE\n") _ _ _ _ (rw c.in_ok-out.ensures.items at c.in_ok-extend_from_slice.ensures.items)
     c.in_ok-put_tables.ensures.text c.in_ok-extend_from_slice-2.ensures.items c.in_ok-put_rules.ensures.text c.in_ok-extend_from_slice-3.ensures.items
 
 pub returns-clause-reading : goal.returns-clause-reading
