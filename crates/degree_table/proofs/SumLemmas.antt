@@ -1,10 +1,11 @@
 -- Cumulative sums, and the place of the first that exceeds a number.
-use Rattle.std.proofs.Common.{inl, inr, ◌≡◌, ◌∙◌, ℕ, ◌+◌, ◌-◌, ◌<◌, ◌≤◌, List, [], ◌∷◌, length, map, take, sum, get_or, true, false, leb, ltb, leb-true, leb-false, ltb-true, ltb-false, not, zero, suc, lt-ltb, le-ltb, add-one, refl, arith}
+use Rattle.std.proofs.Common.{inl, inr, ◌≡◌, ◌∙◌, ℕ, ◌+◌, ◌-◌, ◌<◌, ◌≤◌, List, [], ◌∷◌, length, map, take, sum, get_or, Bool, min, Some, true, false, leb, ltb, leb-true, leb-false, ltb-true, ltb-false, not, zero, suc, lt-ltb, le-ltb, add-one, refl, arith}
 use Rattle.std.proofs.lemmas.Bool.{cases_lt}
-use Rattle.std.proofs.lemmas.List.{take-take, take_all}
+use Rattle.std.proofs.lemmas.List.{take-take, take_all, length-take, get_or-take}
+use Rattle.std.proofs.lemmas.List.Quantifiers.{position-Some}
 use Rattle.std.proofs.lemmas.List.FromFn.{length-map-range_with_len, get_or-map-range_with_len}
 use Rattle.std.proofs.lemmas.List.Sums.{sum_by-take-le, get_or-le-sum_by, prefix_len-le-length, position_or_len_is, fails_before_first, passes_at_first}
-use Rattle.std.specs.List.{range_with_len, position_or_len}
+use Rattle.std.specs.List.{range_with_len, position, position_or_len}
 use Rattle.std.specs.List.Sorted.{IsNonDecreasing, IsPartitionPoint}
 use Rattle.degree_table.specs.DegreeTable.{sum_through, cumulative}
 
@@ -52,6 +53,15 @@ pub position_or_len-from_point : (t : ℕ) (xs : List ℕ) (i : ℕ) → i ≤ l
 position_or_len-from_point t xs i within point =
     position_or_len_is (ltb t) xs i 0 within (λ k below. le-ltb t _ (leb-true _ t (point.0 k 0 (omega arith) below)))
     (λ inside. lt-ltb t _ (omega (arith, leb-false _ t (point.1 i 0 (omega arith) inside))))
+
+-- the first that passes among the first numbers is the first of all
+pub position_or_len-from_first : (p : ℕ → Bool) (count : ℕ) (xs : List ℕ) (i : ℕ) → position p (take count xs) ≡ Some i → position_or_len p xs ≡ i
+position_or_len-from_first p count xs i found =
+    let at = position-Some p (take count xs) i 0 found in
+    let within : i < min count (length xs) = omega (arith, at.0, length-take count xs) in
+    position_or_len_is p xs i 0 (omega (arith, within))
+    (λ k below. rw (← get_or-take count xs k 0 (omega (arith, below, within))) (at.2 k below))
+    (λ inside. rw (← get_or-take count xs i 0 (omega (arith, within))) at.1)
 
 -- where numbers lie one after another from 0, t lies in the one at place p
 pub record Lies (xs : List ℕ) (t p : ℕ) : Type 0 where

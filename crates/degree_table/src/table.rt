@@ -1,7 +1,7 @@
 //! The degrees of a specification by their cumulative weights.
 
 ghost use Rattle.std.specs.Prelude.{◌≡◌, ◌≢◌, ℕ, ◌<◌, ◌≤◌, sum, nat_lt, IfOk};
-ghost use Rattle.std.specs.List.{position_or_len};
+ghost use Rattle.std.specs.List.{position, position_or_len};
 ghost use Rattle.std.specs.List.Sorted.{IsNonDecreasing};
 ghost use Rattle.seeded_draw.specs.Draw.{pick_of};
 ghost use Rattle.gm_config.specs.Limits.{degree_most};
@@ -14,6 +14,9 @@ use gm_config::DegreeSpec;
 use seeded_draw::pick;
 use std::alloc::{AllocError, Global};
 use std::marker::Model;
+
+/// So many sums are looked at one by one.
+const FIRST_SUMS: usize = 4;
 
 /// The degrees that a specification allows, in ascending order, with their weights and cumulative weights.
 #[derive(Drop)]
@@ -88,10 +91,22 @@ impl DegreeTable {
     }
 }
 
-/// The place of the first sum that exceeds `t`.
+/// The place of the first sum that exceeds `t`. The first sums are looked at one by one, since the least degrees are
+/// often those that most words pick.
 fn place_past(sums: &[u64], t: u64) -> usize
     requires rising { IsNonDecreasing sums.now }
     ensures { result ≡ position_or_len (nat_lt t) sums.now }
 {
-    sums.partition_point(|sum| *sum <= t)
+    let first = &sums[..sums.len().min(FIRST_SUMS)];
+    match first_past(first, t) {
+        Some(place) => place,
+        None => sums.partition_point(|sum| *sum <= t),
+    }
+}
+
+/// The place of the first sum that exceeds `t`, if there is one, looked for from the first on.
+fn first_past(sums: &[u64], t: u64) -> Option<usize>
+    ensures { result ≡ position (nat_lt t) sums.now }
+{
+    sums.iter().position(|sum| *sum > t)
 }
