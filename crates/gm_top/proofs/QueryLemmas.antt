@@ -126,7 +126,7 @@ narrow-files names number q (sparql ∷ sql ∷ file ∷ files) are = are
 -- so what is known of its files without it is known of its files
 pub without-wide : (P : FileList → Type 0) (names : List (List ℕ)) (number : ℕ) (q : QueryValue)
     → (files : FileList) × AreFilesOf (pair_of names number (narrow q)) files × P files → (files : FileList) × AreFilesOf (pair_of names number q) files × P files
-without-wide P names number q found = (found.0, narrow-files names number q found.0 found.1.0, found.1.1)
+without-wide P names number q found = (found.0, narrow-files names number q found.0 found.1, found.2)
 
 -- the files of the query that was drawn are those of the drawn query
 pub as-drawn : (P : FileList → Type 0) (config : ConfigValue) (seed number : ℕ) (h : HeadValue) (q : QueryValue) → h ≡ head_of config → q ≡ narrow (query_of config seed number)
