@@ -16,11 +16,11 @@ use Rattle.sel_algebra.specs.declared.vocabulary.Op.TheVariants.{Equal, Less, Gr
 use Rattle.sel_algebra.specs.declared.vocabulary.Kind.{Kind}
 use Rattle.sel_algebra.specs.declared.vocabulary.Kind.TheVariants.{Fixed, Growing}
 use Rattle.sel_algebra.specs.Operators.{at_most, compose_of, normal_of}
-use Rattle.sel_algebra.specs.Entries.{joined, composed, IsNormalEntry}
-use Rattle.sel_algebra.specs.Table.{types_most, Table, kind_at, entry, EachPair, laid_out, table_of, IsMatrix, SetsEntry, zero_of, one_at}
-use Rattle.sel_algebra.proofs.TableLemmas.{row-lt, column-lt, entry-table_of, whole-table_of, IsMatrix-zero_of}
+use Rattle.sel_algebra.specs.Entries.{joined, composed}
+use Rattle.sel_algebra.specs.Table.{Table, kind_at, entry, EachPair, laid_out, table_of, one_at}
+use Rattle.sel_algebra.proofs.TableLemmas.{row-lt, column-lt, entry-table_of, whole-table_of}
 use Rattle.query_draw.specs.declared.columns.Column.{Column}
-use Rattle.query_draw.specs.Columns.{has, is_growing, is_at_least, Tells, no_column, no_entry, column_at, FirstColumns, AreColumns, shown, equal_column, joined_column, followed_column, normal_column, AreJoined, told, told_at, AreNormal, EntersColumn}
+use Rattle.query_draw.specs.Columns.{has, is_growing, is_at_least, Tells, no_column, no_entry, column_at, FirstColumns, AreColumns, shown, equal_column, joined_column, followed_column, normal_column, AreJoined, told_op}
 
 -- ---- sets
 
@@ -157,14 +157,30 @@ Tells-path c op growing from to i x fits lt grows t =
     subst (Tells (normal_column (followed_column c op) growing to) i) (composed_is x op from to)
     (Tells-normal (followed_column c op) growing to i (followed x op) from fits lt grows (Tells-followed c op i x t))
 
--- what a column tells is its entry
-pub told-Tells : (c : Column) (i : ℕ) (x : Option Op) → Tells c i x → told c i ≡ x
+-- the entry that a column has, of what it tells
+abbrev told : Column → ℕ → Option Op
+told c i = if has c.there i then Some (told_op (has c.less i) (has c.greater i) (has c.cross i)) else None
+
+told-Tells : (c : Column) (i : ℕ) (x : Option Op) → Tells c i x → told c i ≡ x
 told-Tells c i None t = rw (t.there) refl
 told-Tells c i (Some Equal) t = rw (t.there, t.less, t.greater, t.cross) refl
 told-Tells c i (Some Less) t = rw (t.there, t.less, t.greater, t.cross) refl
 told-Tells c i (Some Greater) t = rw (t.there, t.less, t.greater, t.cross) refl
 told-Tells c i (Some Diamond) t = rw (t.there, t.less, t.greater, t.cross) refl
 told-Tells c i (Some Cross) t = rw (t.there, t.cross) refl
+
+-- a column has one entry from a type
+pub Tells-one : (c : Column) (i : ℕ) (x y : Option Op) → Tells c i x → Tells c i y → x ≡ y
+Tells-one c i x y p q = sym (told-Tells c i x p) ∙ told-Tells c i y q
+
+-- an entry that is there
+pub told_there : (c : Column) (i : ℕ) (x : Option Op) → Tells c i x → has c.there i ≡ true → x ≡ Some (told_op (has c.less i) (has c.greater i) (has c.cross i))
+told_there c i x t there = sym (told-Tells c i x t) ∙ ap (λ b. if b then Some (told_op (has c.less i) (has c.greater i) (has c.cross i)) else None) there
+
+-- and one that isn't
+pub not_there : (x : Option Op) → false ≡ is_at_least Equal x → x ≡ None
+not_there None none = refl
+not_there (Some a) none = absurd (grind (arith))
 
 -- ---- lists of columns
 
@@ -296,19 +312,6 @@ same_table kinds f t whole same each =
     subst (λ q. slice_index_or t.cells q None ≡ slice_index_or (table_of kinds f).cells q None) here (old ∙ sym (entry-table_of kinds f i j row column))) in
     λ k. laid_out (same k) (cells k)
 
-whole_over : (kinds : List Kind) (t : Table) → IsMatrix t → t.kinds ≡ kinds → length t.cells ≡ length kinds * length kinds
-whole_over kinds t is same = is.whole ∙ ap (λ ks. length ks * length ks) same
-
--- the table of the entries that columns tell
-pub told_table : (kinds : List Kind) (cs : List Column) (t : Table) → IsMatrix t → t.kinds ≡ kinds → AreColumns (length kinds) cs (entry t) → table_of kinds (told_at cs) ≡ t
-told_table kinds cs t is same are = sym (same_table kinds (told_at cs) t (whole_over kinds t is same) same (λ i j p q. sym (told-Tells (column_at cs j) i (entry t i j) (are.each i j p q))))
-
--- the entries of columns that are those of a matrix are normal
-pub AreNormal-columns : (kinds : List Kind) (cs : List Column) (t : Table) → IsMatrix t → t.kinds ≡ kinds → AreColumns (length kinds) cs (entry t) → AreNormal kinds cs
-AreNormal-columns kinds cs t is same are i j p q =
-    subst (λ x. IsNormalEntry x (kind_at kinds i) (kind_at kinds j)) (sym (told-Tells (column_at cs j) i (entry t i j) (are.each i j p q)))
-    (subst (λ ks. IsNormalEntry (entry t i j) (kind_at ks i) (kind_at ks j)) same (is.normal i j (rw same p) (rw same q)))
-
 -- ---- the growing types
 
 -- a set has just the growing ones of the first n types
@@ -336,70 +339,3 @@ GrowingBelow-without kinds set n other first = record {
   ];
   above = λ i p. first.above i (omega (arith, p));
 }
-
--- ---- columns that become a matrix
-
-pub EntersColumn-none : (t : Table) (c : Column) (to : ℕ) → EntersColumn t t c to 0
-EntersColumn-none t c to = record { kinds = refl; entered = λ i lt. absurd (omega (arith, lt)); rest = λ i j p q other. refl }
-
--- with no further entry
-pub EntersColumn-without : (old new : Table) (c : Column) (to m : ℕ) → m < length old.kinds → to < length old.kinds → entry old m to ≡ None → told c m ≡ None → EntersColumn old new c to m → EntersColumn old new c to (m + 1)
-EntersColumn-without old new c to m lt within none tells enters = record {
-  kinds = enters.kinds;
-  entered = λ i p. elim (eqb_tells i m) [
-    | inl hit ↦ subst (λ k. entry new k to ≡ told c k) (sym hit.1) (enters.rest m to lt within (λ same. omega arith) ∙ (none ∙ sym tells))
-    | inr miss ↦ enters.entered i (let e = miss.1 in omega (arith, p, e))
-  ];
-  rest = λ i j p q other. enters.rest i j p q (λ same. let e = other same in omega (arith, e));
-}
-
--- with a further entry, which is normal
-pub EntersColumn-with : (old new next : Table) (c : Column) (to m : ℕ) (op : Op) → m < length old.kinds → to < length old.kinds → IsNormalEntry (told c m) (kind_at old.kinds m) (kind_at old.kinds to) → told c m ≡ Some op
-    → SetsEntry new next m to op → EntersColumn old new c to m → EntersColumn old next c to (m + 1)
-EntersColumn-with old new next c to m op lt within normal tells sets enters =
-    let form : normal_of op (kind_at old.kinds m) (kind_at old.kinds to) ≡ op = subst (λ x. IsNormalEntry x (kind_at old.kinds m) (kind_at old.kinds to)) tells normal in
-    let here : entry next m to ≡ told c m = sets.changed ∙ (ap (λ ks. Some (normal_of op (kind_at ks m) (kind_at ks to))) enters.kinds ∙ (ap Some form ∙ sym tells)) in
-    let column : to < length new.kinds = rw enters.kinds within in
-    record {
-      kinds = sets.kinds ∙ enters.kinds;
-      entered = λ i p. elim (eqb_tells i m) [
-        | inl hit ↦ subst (λ k. entry next k to ≡ told c k) (sym hit.1) here
-        | inr miss ↦
-            let below : i < m = let e = miss.1 in omega (arith, p, e) in
-            let row : i < length new.kinds = rw enters.kinds (omega (arith, below, lt)) in
-            sets.others i to row column (λ same _. miss.1 same) ∙ enters.entered i below
-      ];
-      rest = λ i j p q other.
-          let differ : i ≡ m → j ≡ to → ⊥ = λ same there. let e = other there in omega (arith, e, same) in
-          sets.others i j (rw enters.kinds p) (rw enters.kinds q) differ ∙ enters.rest i j p q (λ there. let e = other there in omega (arith, e));
-    }
-
--- a matrix with the entries of the first m columns
-pub record HasColumns (types : List Kind) (cs : List Column) (t : Table) (m : ℕ) : Type 0 where
-  pub matrix : IsMatrix t
-  pub kinds : t.kinds ≡ types
-  pub entered : EachPair types (λ i j. j < m → entry t i j ≡ told_at cs i j)
-  pub rest : EachPair types (λ i j. m ≤ j → entry t i j ≡ None)
-
-pub HasColumns-none : (kinds : List Kind) (cs : List Column) → length kinds ≤ types_most → HasColumns kinds cs (zero_of kinds) 0
-HasColumns-none kinds cs few = record {
-  matrix = IsMatrix-zero_of kinds few;
-  kinds = refl;
-  entered = λ i j p q lt. absurd (omega (arith, lt));
-  rest = λ i j p q le. entry-table_of kinds (λ i j. None) i j p q;
-}
-
-pub HasColumns-more : (kinds : List Kind) (cs : List Column) (old new : Table) (m : ℕ) → m < length kinds → IsMatrix new → EntersColumn old new (column_at cs m) m (length kinds) → HasColumns kinds cs old m → HasColumns kinds cs new (m + 1)
-HasColumns-more kinds cs old new m lt matrix enters has = record {
-  matrix = matrix;
-  kinds = enters.kinds ∙ has.kinds;
-  entered = λ i j p q below. elim (eqb_tells j m) [
-    | inl hit ↦ subst (λ k. entry new i k ≡ told_at cs i k) (sym hit.1) (enters.entered i p)
-    | inr miss ↦
-        enters.rest i j (rw has.kinds p) (rw has.kinds q) (λ same. absurd (miss.1 same)) ∙ has.entered i j p q (let e = miss.1 in omega (arith, below, e))
-  ];
-  rest = λ i j p q above. enters.rest i j (rw has.kinds p) (rw has.kinds q) (λ same. absurd (omega (arith, above, same))) ∙ has.rest i j p q (omega (arith, above));
-}
-
-pub HasColumns-all : (kinds : List Kind) (cs : List Column) (t : Table) → HasColumns kinds cs t (length kinds) → t ≡ table_of kinds (told_at cs)
-HasColumns-all kinds cs t has = same_table kinds (told_at cs) t (whole_over kinds t has.matrix has.kinds) has.kinds (λ i j p q. has.entered i j p q q)

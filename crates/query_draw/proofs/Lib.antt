@@ -9,6 +9,8 @@ pub mod ConjunctLemmas
 pub mod QueryLemmas
 pub mod ColumnLemmas
 pub mod AlongLemmas
+pub mod TypeSetLemmas
 pub mod ProductLemmas
+pub mod ClassLemmas
 pub mod MatrixLemmas
 pub mod LedLemmas

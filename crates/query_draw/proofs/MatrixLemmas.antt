@@ -12,17 +12,15 @@ use Rattle.sel_algebra.specs.declared.vocabulary.Symbol.{Symbol}
 use Rattle.sel_algebra.specs.Entries.{greater_class}
 use Rattle.sel_algebra.specs.Table.{Table, zero_of, one_of, times_of, plus_of}
 use Rattle.sel_algebra.specs.Closure.{closure_of}
-use Rattle.sel_algebra.proofs.ClosureLemmas.{IsClosureOf-closure_of}
 use Rattle.schema_graph.specs.Schema.{SchemaValue}
 use Rattle.query_terms.specs.declared.terms.Conjunct.{Conjunct}
 use Rattle.query_terms.specs.declared.terms.Rule.{Rule}
-use Rattle.query_terms.specs.Values.{ConjunctValue, RuleValue, has_edge, is_word, is_conjunct, is_rule, are_rules, has_heads, have_heads, arity_of}
+use Rattle.query_terms.specs.Values.{RuleValue, has_edge, is_word, is_conjunct, is_rule, are_rules, has_heads, have_heads, arity_of}
 use Rattle.query_terms.specs.Spans.{cut}
 use Rattle.query_terms.specs.Lists.{words_in, conjunct_in, conjuncts_in, rule_in, rules_in}
 use Rattle.skeletons.specs.Skeleton.{spine_of}
 use Rattle.query_draw.specs.Values.{spine, greatest_of}
 use Rattle.query_draw.specs.Wide.{symbol_matrix, times_symbol, word_matrix, plus_word, union_matrix, conjunct_matrix, times_conjunct}
-use Rattle.query_draw.proofs.WideLemmas.{union_kinds}
 
 -- ---- lists
 
@@ -112,13 +110,6 @@ pub starred_matrix : (g : SchemaValue) (symbols : List Symbol) (words : List Spa
 starred_matrix g symbols words c u starred is =
     ap closure_of (is ∙ ap (union_matrix g) (sym (cut-map (cut symbols) words c.words)))
     ∙ (λ k. if sym starred k then closure_of (union_matrix g (cut (words_in symbols words) c.words)) else union_matrix g (cut (words_in symbols words) c.words))
-
-by_star_kinds : (star : Bool) (m : Table) → (if star then closure_of m else m).kinds ≡ m.kinds
-by_star_kinds true m = (IsClosureOf-closure_of m).kinds
-by_star_kinds false m = refl
-
-pub conjunct_kinds : (g : SchemaValue) (c : ConjunctValue) → (conjunct_matrix g c).kinds ≡ g.kinds
-conjunct_kinds g c = by_star_kinds c.star (union_matrix g c.words) ∙ union_kinds g (zero_of g.kinds) c.words
 
 pub got_is : {X : Type 0} (xs : List X) (i : ℕ) (x : X) → slice_get xs i ≡ Some x → slice_index_or xs i x ≡ x
 got_is xs i x is = get_or_from_slice_get xs i x x is

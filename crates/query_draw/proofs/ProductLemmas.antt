@@ -1,11 +1,6 @@
 -- Products and closures of matrices by their columns.
-use Rattle.std.proofs.Common.{◌≡◌, ◌≢◌, ℕ, zero, suc, ◌+◌, ◌*◌, ◌<◌, ◌≤◌, ◌==◌, ◌%◌, ◌^◌, Bool, true, false, if◌then◌else◌, Option, Some, None, List, length, slice_set, inl, inr, refl, sym, ap, subst, ◌∙◌, arith, add-one}
-use Rattle.std.specs.Int.{bit_not, w64, trailing_zeros}
-use Rattle.std.specs.Int.Count.{trailing_of_zero}
-use Rattle.std.specs.Int.RustNames.{bit_and}
+use Rattle.std.proofs.Common.{◌≡◌, ◌≢◌, ℕ, zero, suc, ◌+◌, ◌*◌, ◌<◌, ◌≤◌, ◌^◌, Bool, true, false, if◌then◌else◌, Option, Some, None, List, length, slice_set, inl, inr, refl, sym, ap, subst, ◌∙◌, arith, add-one}
 use Rattle.std.proofs.lemmas.Bool.Decides.{eqb_tells}
-use Rattle.std.proofs.lemmas.Nat.{and_le_l}
-use Rattle.std.proofs.lemmas.Nat.Bits.{bit_at-trailing_zeros, bit_at_clear_same, bit_at_clear_other}
 use Rattle.sel_algebra.specs.declared.vocabulary.Op.{Op}
 use Rattle.sel_algebra.specs.declared.vocabulary.Op.TheVariants.{Equal}
 use Rattle.sel_algebra.specs.declared.vocabulary.Kind.{Kind}
@@ -16,9 +11,10 @@ use Rattle.sel_algebra.proofs.EntryLemmas.{EntryAtMost-refl, EntryAtMost-trans, 
 use Rattle.sel_algebra.proofs.TableLemmas.{entry-table_of}
 use Rattle.sel_algebra.proofs.ClosureLemmas.{IsRound, entry-round_of, IsRound-one_of, IsRound-round_of, rounds-none, rounds-more, closure-still}
 use Rattle.query_draw.specs.declared.columns.Column.{Column}
-use Rattle.query_draw.specs.Columns.{has, AreGrowing, is_at_least, Tells, no_entry, column_at, FirstColumns, AreColumns, joined_column, followed_column, normal_column, told, told_op}
-use Rattle.query_draw.specs.Products.{HasNone, IsLeastType, IsWithout, path_by, JoinsPaths, IsProduct, IsRoundOf, IsClosed}
-use Rattle.query_draw.proofs.ColumnLemmas.{has_none, Tells-joined, Tells-path, told-Tells, FirstColumns-more, AreColumns-same, AreColumns-table_of, same_table}
+use Rattle.query_draw.specs.Columns.{has, AreGrowing, is_at_least, Tells, no_entry, column_at, FirstColumns, AreColumns, joined_column, followed_column, normal_column, told_op}
+use Rattle.query_draw.specs.TypeSets.{HasNone}
+use Rattle.query_draw.specs.Products.{path_by, JoinsPaths, IsProduct, IsRoundOf, IsClosed}
+use Rattle.query_draw.proofs.ColumnLemmas.{Tells-joined, Tells-path, not_there, told_there, Tells-one, FirstColumns-more, AreColumns-same, AreColumns-table_of, same_table}
 use Rattle.query_draw.proofs.AlongLemmas.{join_below-most}
 use Rattle.query_draw.proofs.WideLemmas.{join_moves}
 
@@ -54,41 +50,6 @@ join_below-with n f g k lt none same =
     ]) in
     EntryAtMost-antisym (join_below n g) all below (joined-EntryAtMost (join_below n f) (g k) (join_below n g) rises (EntryAtMost-join_below n g k lt))
 
--- ---- sets
-
-lowest : (set : ℕ) → set < 2 ^ 64 → HasNone set (trailing_zeros w64 set)
-lowest zero fits k lt = has_none k
-lowest (suc set) fits k lt =
-    let (within, here, below) = bit_at-trailing_zeros w64 (suc set) (omega arith) fits in
-    ap (λ x. x == 1) (below k lt)
-
-lowest_there : (set : ℕ) → set < 2 ^ 64 → trailing_zeros w64 set < 64 → has set (trailing_zeros w64 set) ≡ true
-lowest_there zero fits lt = absurd (omega (arith, trailing_of_zero 64, lt))
-lowest_there (suc set) fits lt =
-    let (within, here, below) = bit_at-trailing_zeros w64 (suc set) (omega arith) fits in
-    ap (λ x. x == 1) here
-
--- the place of the lowest bit is the least type
-pub IsLeastType-lowest : (set n : ℕ) → set < 2 ^ 64 → n ≤ types_most → trailing_zeros w64 set < n → IsLeastType set n (trailing_zeros w64 set)
-IsLeastType-lowest set n fits few lt = record { within = lt; here = lowest_there set fits (omega (arith, lt, few)); least = lowest set fits }
-
-pub HasNone-lowest : (set n : ℕ) → set < 2 ^ 64 → n ≤ trailing_zeros w64 set → HasNone set n
-HasNone-lowest set n fits le k lt = lowest set fits k (omega (arith, le, lt))
-
-pub IsWithout-cleared : (set t : ℕ) → t < types_most → IsWithout set t (bit_and set (bit_not w64 (1 * 2 ^ t % 2 ^ 64)))
-IsWithout-cleared set t lt = record {
-  here = ap (λ x. x == 1) (bit_at_clear_same w64 set t lt);
-  others = λ k within differ. ap (λ x. x == 1) (bit_at_clear_other w64 set t lt k within differ);
-  at_most = and_le_l set (bit_not w64 (1 * 2 ^ t % 2 ^ 64));
-}
-
--- a set without one of its types is a lesser number
-pub IsWithout-lesser : (set t new : ℕ) → has set t ≡ true → IsWithout set t new → new < set
-IsWithout-lesser set t new there without =
-    let differ : new ≢ set = λ same. let clash = sym (without.here) ∙ (ap (λ x. has x t) same ∙ there) in cc in
-    let le = without.at_most in
-    omega (arith, differ, le)
-
 -- ---- the paths of a matrix that end with a step of a column
 
 -- the path by way of a type that isn't in a set
@@ -102,14 +63,10 @@ JoinsPathsBut rest growing paths steps to old new =
     → ((k : ℕ) → k < length kinds → Tells steps k (f k)) → ((i : ℕ) → i < length kinds → Tells old i (e i))
     → (i : ℕ) → i < length kinds → Tells new i (joined (e i) (join_below (length kinds) (path_but rest kinds a f to i)))
 
-no_step : (x y : Option Op) (from to : Kind) → false ≡ is_at_least Equal y → composed x y from to ≡ None
-no_step None y from to none = refl
-no_step (Some a) None from to none = refl
-no_step (Some a) (Some b) from to none = absurd (grind (arith))
-
 by_none : (x y : Option Op) (from to : Kind) (b : Bool) → b ≡ is_at_least Equal y → (if b then None else composed x y from to) ≡ None
 by_none x y from to true there = refl
-by_none x y from to false there = no_step x y from to there
+by_none None y from to false there = refl
+by_none (Some a) y from to false there = ap (λ z. composed (Some a) z from to) (not_there y there)
 
 -- by way of no type that has a step
 pub JoinsPathsBut-none : (growing : ℕ) (paths : List Column) (steps : Column) (to : Kind) (old : Column) → JoinsPathsBut steps.there growing paths steps to old old
@@ -117,9 +74,6 @@ JoinsPathsBut-none growing paths steps to old kinds a f e grows first tells star
     let none : join_below (length kinds) (path_but steps.there kinds a f to i) ≡ None =
     join_below-nothing (length kinds) (path_but steps.there kinds a f to i) (λ k lt. by_none (a i k) (f k) (kind_at kinds i) to (has steps.there k) (tells k lt).there) in
     subst (Tells old i) (sym (ap (joined (e i)) none ∙ joined-none (e i))) (start i p)
-
-told_there : (c : Column) (k : ℕ) → has c.there k ≡ true → told c k ≡ Some (told_op (has c.less k) (has c.greater k) (has c.cross k))
-told_there c k there = rw there refl
 
 -- by way of a further type
 pub JoinsPathsBut-more : (rest next growing : ℕ) (paths : List Column) (steps : Column) (to : Kind) (old new : Column) (m : ℕ) → growing < 2 ^ 64 → length paths ≤ types_most → m < length paths
@@ -132,7 +86,7 @@ JoinsPathsBut-more rest next growing paths steps to old new m fits few lt in_res
     let path = normal_column (followed_column (column_at paths m) op) growing to in
     let within : m < n = rw first.whole at lt in
     let small : n ≤ 64 = rw first.whole at few in
-    let step : f m ≡ Some op = sym (told-Tells steps m (f m) (tells m within)) ∙ told_there steps m there in
+    let step : f m ≡ Some op = told_there steps m (f m) (tells m within) there in
     let one : Tells path i (composed (a i m) (Some op) (kind_at kinds i) to) =
     Tells-path (column_at paths m) op growing (kind_at kinds i) to i (a i m) fits (omega (arith, p, small)) (grows i p) (first.each i m p within) in
     let by_m : path_but next kinds a f to i m ≡ composed (a i m) (Some op) (kind_at kinds i) to =
@@ -218,6 +172,5 @@ AreRounds-still kinds a x next n round still so_far t same first =
     same_table t.kinds (sum_at (one_of t.kinds) (times_of t r)) r is.whole is.kinds (λ i j p q.
     let p' = rw same at p in
     let q' = rw same at q in
-    sym (told-Tells (column_at x j) i (entry r i j) (here.each i j p' q'))
-    ∙ (told-Tells (column_at x j) i (entry (round_of t r) i j) (after.each i j p' q') ∙ entry-table_of t.kinds (sum_at (one_of t.kinds) (times_of t r)) i j p q)) in
+    Tells-one (column_at x j) i (entry r i j) (entry (round_of t r) i j) (here.each i j p' q') (after.each i j p' q') ∙ entry-table_of t.kinds (sum_at (one_of t.kinds) (times_of t r)) i j p q) in
     subst (λ m. AreColumns (length kinds) x (entry m)) (closure-still t r is (ap (λ m. m.cells) (sym unchanged))).1 here

@@ -202,11 +202,6 @@ union_is_matrix g few a kinds (word ∷ words) is =
     let one = word_is_matrix g (one_of g.kinds) word (IsMatrix-one_of g.kinds few) in
     union_is_matrix g few (plus_word g a word) kinds words (IsMatrix-plus_of a (word_matrix g word) (word_kinds g (one_of g.kinds) word ∙ sym kinds) is one)
 
--- a matrix, times those of conjuncts
-pub spine_is_matrix : (g : SchemaValue) (a : Table) (cs : List ConjunctValue) → IsMatrix a → IsMatrix (fold (times_conjunct g) a cs)
-spine_is_matrix g a [] is = is
-spine_is_matrix g a (c ∷ cs) is = spine_is_matrix g (times_conjunct g a c) cs (IsMatrix-times_of a (conjunct_matrix g c) is)
-
 -- ---- conjuncts and spines
 
 by_star : (star : Bool) (v w : Op) (a b : Table) (t u : ℕ) → (star ≡ false → EntryAtMost (Some v) (entry a t u)) → (star ≡ true → EntryAtMost (Some w) (entry b t u))

@@ -12,9 +12,7 @@
 --   followed_column c op          the compositions of the entries with an operator
 --   normal_column c growing to    their normal forms, to a kind
 --   AreJoined old others new m    the first m columns are joined with others
---   told c i, told_at cs i j      the entry that a column has, and that from i to j
---   AreNormal kinds cs            the entries are normal
---   EntersColumn old new c to m   the first m entries of a column become those to a type
+--   told_op less greater cross    the operator of an entry that is there
 --   edge_column g growing s a     the paths of a matrix and then along the edge of a symbol
 --   JoinsEdge, JoinsSymbol        they are joined with a matrix, and a matrix is the product with that of a symbol
 --   labelled edges label          the numbers of the edges with a label
@@ -28,8 +26,7 @@ use Rattle.sel_algebra.specs.declared.vocabulary.Kind.{Kind}
 use Rattle.sel_algebra.specs.declared.vocabulary.Kind.TheVariants.{Fixed, Growing}
 use Rattle.sel_algebra.specs.declared.vocabulary.Symbol.{Symbol}
 use Rattle.sel_algebra.specs.Operators.{at_most}
-use Rattle.sel_algebra.specs.Entries.{IsNormalEntry}
-use Rattle.sel_algebra.specs.Table.{Table, kind_at, entry, EachPair, times_of}
+use Rattle.sel_algebra.specs.Table.{Table, kind_at, entry, times_of}
 use Rattle.schema_graph.specs.declared.edge.SchemaEdge.{SchemaEdge}
 use Rattle.schema_graph.specs.Edge.{edge_at, start_of, end_of, op_of}
 use Rattle.schema_graph.specs.Schema.{SchemaValue}
@@ -125,24 +122,6 @@ told_op true true false = Diamond
 told_op true false false = Less
 told_op false true false = Greater
 told_op false false false = Equal
-
--- the entry that a column has from type i
-abbrev pub told : Column → ℕ → Option Op
-told c i = if has c.there i then Some (told_op (has c.less i) (has c.greater i) (has c.cross i)) else None
-
--- the entry from type i to type j
-abbrev pub told_at : List Column → ℕ → ℕ → Option Op
-told_at cs i j = told (column_at cs j) i
-
--- the entries are normal
-abbrev pub AreNormal : List Kind → List Column → Type 0
-AreNormal kinds cs = EachPair kinds (λ i j. IsNormalEntry (told_at cs i j) (kind_at kinds i) (kind_at kinds j))
-
--- the first m entries of a column become those to a type, and all else stays
-pub record EntersColumn (old new : Table) (c : Column) (to m : ℕ) : Type 0 where
-  pub kinds : new.kinds ≡ old.kinds
-  pub entered : (i : ℕ) → i < m → entry new i to ≡ told c i
-  pub rest : EachPair old.kinds (λ i j. (j ≡ to → m ≤ i) → entry new i j ≡ entry old i j)
 
 -- the paths of a matrix and then along the edge of a symbol
 abbrev pub edge_column : SchemaValue → ℕ → Symbol → List Column → Column

@@ -1,7 +1,9 @@
 pub mod Drawn
 pub mod Values
 pub mod Columns
+pub mod TypeSets
 pub mod Products
+pub mod Classes
 pub mod Work
 pub mod Wide
 pub mod Query

@@ -1,39 +1,17 @@
 -- Products and closures of matrices by their columns.
---   IsNextType set n t               the least type of a set, if it has one among n
---   IsWithout set t new              a set without a type
 --   path_by kinds a f to i k         the path from type i with an entry of a, and then the step from type k
 --   JoinsPaths w first steps to old new   a column is joined with those by all types
 --   IsProduct kinds a b new          a matrix is the product of two others
 --   IsRoundOf kinds a x new          it is no path, or a step of a before what x has
 --   IsClosed kinds a new             it is the closure of another one
-use Rattle.std.specs.Prelude.{◌≡◌, ◌≢◌, ◌<◌, ◌≤◌, ℕ, true, false, Option, List, length, MatchOption}
+use Rattle.std.specs.Prelude.{◌≡◌, ◌<◌, ℕ, Option, List, length}
 use Rattle.sel_algebra.specs.declared.vocabulary.Op.{Op}
 use Rattle.sel_algebra.specs.declared.vocabulary.Kind.{Kind}
 use Rattle.sel_algebra.specs.Entries.{joined, join_below, composed}
-use Rattle.sel_algebra.specs.Table.{types_most, Table, kind_at, entry, times_of}
+use Rattle.sel_algebra.specs.Table.{Table, kind_at, entry, times_of}
 use Rattle.sel_algebra.specs.Closure.{round_of, closure_of}
 use Rattle.query_draw.specs.declared.columns.Column.{Column}
-use Rattle.query_draw.specs.Columns.{has, AreGrowing, Tells, AreColumns}
-
--- a set has no type below n
-abbrev pub HasNone : ℕ → ℕ → Type 0
-HasNone set n = (k : ℕ) → k < n → has set k ≡ false
-
--- t is the least type of a set, and below n
-pub record IsLeastType (set n t : ℕ) : Type 0 where
-  pub within : t < n
-  pub here : has set t ≡ true
-  pub least : HasNone set t
-
--- the least type of a set, if it has one below n
-abbrev pub IsNextType : ℕ → ℕ → Option ℕ → Type 0
-IsNextType set n t = MatchOption t (HasNone set n) (IsLeastType set n)
-
--- a set without a type
-pub record IsWithout (set t new : ℕ) : Type 0 where
-  pub here : has new t ≡ false
-  pub others : (k : ℕ) → k < types_most → k ≢ t → has new k ≡ has set k
-  pub at_most : new ≤ set
+use Rattle.query_draw.specs.Columns.{AreGrowing, Tells, AreColumns}
 
 -- the path from type i to type k with an entry of a, and then the step from there with that of f, to a type of a kind
 abbrev pub path_by : List Kind → (ℕ → ℕ → Option Op) → (ℕ → Option Op) → Kind → ℕ → ℕ → Option Op

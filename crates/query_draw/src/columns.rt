@@ -1,13 +1,10 @@
 //! Matrices by columns of bits: a column has all entries to one type, by sets of the types from which they lead.
 
-ghost use Rattle.std.specs.Prelude.{◌≡◌, ◌≤◌, ◌<◌, ℕ, length, None, IfOk};
-ghost use Rattle.sel_algebra.specs.Entries.{IsNormalEntry};
-ghost use Rattle.sel_algebra.specs.Table.{types_most, kind_at, IsMatrix, EachPair, entry, table_of};
-ghost use Rattle.query_draw.specs.Columns.{has, is_growing, AreGrowing, no_column, column_at, equal_column, joined_column, followed_column, normal_column, told, told_op, told_at, AreNormal, EntersColumn};
+ghost use Rattle.std.specs.Prelude.{◌≡◌, ◌≤◌, ◌<◌, length};
+ghost use Rattle.sel_algebra.specs.Table.{types_most};
+ghost use Rattle.query_draw.specs.Columns.{has, is_growing, AreGrowing, no_column, equal_column, joined_column, followed_column, normal_column, told_op};
 
-use crate::column_list::Columns;
-use sel_algebra::{Kind, Matrix, Op};
-use std::alloc::{AllocError, Global};
+use sel_algebra::{Kind, Op};
 
 /// The entries to one type, by sets of the types from which they lead: bit `t` of a set stands for type `t`.
 #[derive(Clone, Copy, Debug, PartialEq, Eq)]
@@ -133,17 +130,6 @@ pub(crate) fn has(set: u64, t: u8) -> bool
     set >> t & 1 == 1
 }
 
-/// The entry of a column from a type.
-fn told(column: Column, t: u8) -> Option<Op>
-    requires { t < types_most }
-    ensures { result ≡ told column t }
-{
-    if !has(column.there, t) {
-        return None;
-    }
-    Some(told_op(column, t))
-}
-
 /// The operator that the entry of a column from a type is, where it is there.
 pub(crate) fn told_op(column: Column, t: u8) -> Op
     requires { t < types_most }
@@ -157,43 +143,5 @@ pub(crate) fn told_op(column: Column, t: u8) -> Op
         (true, false) => Op::Less,
         (false, true) => Op::Greater,
         (false, false) => Op::Equal,
-    }
-}
-
-/// The matrix over types of these kinds with the entries of these columns.
-pub(crate) fn matrix_of(
-    alloc: Global,
-    kinds: &[Kind],
-    columns: &Columns,
-) -> Result<Matrix, AllocError>
-    requires few { length kinds.now ≤ types_most }
-    requires whole { length columns.now ≡ length kinds.now }
-    requires normal { AreNormal kinds.now columns.now }
-    ensures { IfOk result (λ matrix. matrix ≡ table_of kinds.now (told_at columns.now)) }
-{
-    let mut matrix = Matrix::zero(alloc, kinds)?;
-    for to in 0..kinds.len() {
-        enter_column(&mut matrix, kinds.len() as u8, columns.at(to), to as u8);
-    }
-    Ok(matrix)
-}
-
-/// Makes the entries of a column those to a type to which there are none.
-fn enter_column(matrix: &mut Matrix, count: u8, column: Column, to: u8)
-    requires matrix { IsMatrix matrix.old }
-    requires count { count ≡ length matrix.old.kinds }
-    requires to { to < count }
-    requires none { (i : ℕ) → i < count → entry matrix.old i to ≡ None }
-    requires normal { (i : ℕ) → i < count → IsNormalEntry (told column i) (kind_at matrix.old.kinds i) (kind_at matrix.old.kinds to) }
-    ensures entries { EntersColumn matrix.old matrix.new column to count }
-    ensures matrix { IsMatrix matrix.new }
-{
-    if column.there == 0 {
-        return;
-    }
-    for from in 0..count {
-        if let Some(op) = told(column, from) {
-            matrix.set(from, to, op);
-        }
     }
 }

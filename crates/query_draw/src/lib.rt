@@ -4,6 +4,7 @@
 #![tactic(auto)]
 
 mod along;
+mod classes;
 mod column_list;
 mod columns;
 mod drawer;
@@ -17,6 +18,7 @@ mod plan;
 mod products;
 mod query;
 mod rules;
+mod type_sets;
 mod wide;
 mod words;
 

@@ -1,14 +1,15 @@
 //! Products and closures of matrices by their columns.
 
-ghost use Rattle.std.specs.Prelude.{◌≡◌, ◌≤◌, ◌<◌, ◌*◌, length};
+ghost use Rattle.std.specs.Prelude.{◌≡◌, ◌≤◌, ◌*◌, length};
 ghost use Rattle.sel_algebra.specs.Table.{types_most};
 ghost use Rattle.query_draw.specs.Columns.{AreGrowing};
-ghost use Rattle.query_draw.specs.Products.{IsNextType, IsWithout, JoinsPaths, IsProduct, IsRoundOf, IsClosed};
+ghost use Rattle.query_draw.specs.Products.{JoinsPaths, IsProduct, IsRoundOf, IsClosed};
 
 use crate::column_list::Columns;
 use crate::columns::{
     Column, equal_column, followed_column, joined_column, no_column, normal_column, told_op,
 };
+use crate::type_sets::{next_type, without};
 use sel_algebra::Kind;
 use std::mem;
 
@@ -97,25 +98,4 @@ fn join_paths(column: Column, paths: &Columns, steps: Column, growing: u64, to: 
         rest = without(rest, middle);
     }
     joined
-}
-
-/// The least type of a set, if it has one among so many.
-fn next_type(set: u64, count: usize) -> Option<u8>
-    requires { count ≤ types_most }
-    ensures { IsNextType set count result }
-{
-    let least = set.trailing_zeros();
-    if (least as usize) < count {
-        Some(least as u8)
-    } else {
-        None
-    }
-}
-
-/// A set without one of its types.
-fn without(set: u64, t: u8) -> u64
-    requires { t < types_most }
-    ensures { IsWithout set t result }
-{
-    set & !(1 << t)
 }

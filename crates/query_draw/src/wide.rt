@@ -1,6 +1,6 @@
 //! The wide class of a query: what the classes of all paths along its labels are at most.
 
-ghost use Rattle.std.specs.Prelude.{◌≡◌, ◌≤◌, true, length, take, IfOk, OnOk};
+ghost use Rattle.std.specs.Prelude.{◌≡◌, ◌≤◌, true, length, take, IfOk};
 ghost use Rattle.std.specs.List.{list_all};
 ghost use Rattle.sel_algebra.specs.Table.{entry};
 ghost use Rattle.skeletons.specs.Skeleton.{spine_of};
@@ -13,7 +13,7 @@ ghost use Rattle.query_draw.specs.Work.{IsWork};
 ghost use Rattle.query_draw.specs.Wide.{union_matrix, conjunct_matrix, spine_matrix, rule_wide, query_wide};
 
 use crate::along::{Work, follow_word};
-use crate::columns::matrix_of;
+use crate::classes::greatest_class;
 use crate::products::{close, multiply};
 use gm_text::Span;
 use query_terms::{Conjunct, Query, Rule};
@@ -37,31 +37,24 @@ pub(crate) fn wide_class(
     let mut work = Work::new(alloc, schema)?;
     let mut wide = None;
     for rule in query.rules {
-        let class = rule_wide(alloc, schema, query, rule, &mut work)?;
+        let class = rule_wide(schema, query, rule, &mut work);
         wide = greater_class(wide, class);
     }
     Ok(wide)
 }
 
 /// The wide class of a rule: the greatest class in the matrix of its spine.
-fn rule_wide(
-    alloc: Global,
-    schema: &Schema,
-    query: &Query<'_>,
-    rule: &Rule,
-    work: &mut Work,
-) -> Result<Option<Class>, AllocError>
+fn rule_wide(schema: &Schema, query: &Query<'_>, rule: &Rule, work: &mut Work) -> Option<Class>
     requires lies { lies (length query.now.conjuncts.now) rule.now.conjuncts ≡ true }
     requires edges { is_rule (length schema.now.edges) (rule_in (conjuncts_in query.now.symbols.now query.now.words.now query.now.conjuncts.now) rule.now) ≡ true }
     requires work { IsWork schema.now work.old }
-    ensures value { IfOk result (λ wide. wide ≡ rule_wide schema.now query.now.shape (rule_in (conjuncts_in query.now.symbols.now query.now.words.now query.now.conjuncts.now) rule.now)) }
-    ensures work { OnOk result (IsWork schema.now work.new) }
+    ensures value { result ≡ rule_wide schema.now query.now.shape (rule_in (conjuncts_in query.now.symbols.now query.now.words.now query.now.conjuncts.now) rule.now) }
+    ensures work { IsWork schema.now work.new }
 {
     let conjuncts = cut(query.conjuncts, rule.conjuncts);
     let spine = first(conjuncts, spine_of(query.shape, conjuncts.len()));
     follow_spine(schema, query, spine, work);
-    let matrix = matrix_of(alloc, schema.kinds(), &work.spine)?;
-    Ok(matrix.greatest_class())
+    greatest_class(schema.kinds(), &work.spine)
 }
 
 /// How many of so many conjuncts are the spine of a rule of this shape.

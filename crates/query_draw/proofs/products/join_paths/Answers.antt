@@ -1,10 +1,9 @@
-use Rattle.std.proofs.Common.{◌≡◌, ◌<◌, ◌≤◌, length, inl, inr, ap, sym, subst, ◌∙◌, arith}
-use Rattle.std.proofs.lemmas.Bool.{true≢false}
-use Rattle.std.proofs.lemmas.Bool.Decides.{eqb_tells}
+use Rattle.std.proofs.Common.{◌≡◌, ◌<◌, ◌≤◌, length, ap, sym, subst, ◌∙◌, arith}
 use Rattle.sel_algebra.specs.Table.{types_most}
-use Rattle.query_draw.specs.Columns.{has, column_at, joined_column, followed_column, normal_column}
-use Rattle.query_draw.specs.Products.{HasNone}
-use Rattle.query_draw.proofs.ProductLemmas.{IsWithout-lesser, JoinsPathsBut, JoinsPathsBut-none, JoinsPathsBut-more, JoinsPathsBut-all}
+use Rattle.query_draw.specs.Columns.{column_at, joined_column, followed_column, normal_column}
+use Rattle.query_draw.specs.TypeSets.{HasNone}
+use Rattle.query_draw.proofs.TypeSetLemmas.{IsWithout-lesser, AreIn-without}
+use Rattle.query_draw.proofs.ProductLemmas.{JoinsPathsBut, JoinsPathsBut-none, JoinsPathsBut-more, JoinsPathsBut-all}
 use Rattle.query_draw.proofs.products.join_paths.Goals as goal
 
 pub loop-middle-init : goal.loop-middle-init
@@ -31,10 +30,7 @@ loop-middle-preserved c =
     (c.normal_column.ensures
     ∙ ap (λ x. normal_column x c.args.growing c.args.to) (c.followed_column-path.ensures ∙ ap (λ x. followed_column x c.told_op.result) c.at.ensures)) in
     record {
-      steps = λ k lt there. elim (eqb_tells k m) [
-        | inl hit ↦ absurd (true≢false (sym there ∙ (ap (has next) hit.1 ∙ less.here)))
-        | inr miss ↦ c.loop-middle.invariant.steps k lt (sym (less.others k lt miss.1) ∙ there)
-      ];
+      steps = AreIn-without rest c.args.steps.there m next less c.loop-middle.invariant.steps;
       joins =
           subst (JoinsPathsBut next c.args.growing paths steps c.args.to c.args.column)
           (sym (column ∙ ap (λ op. joined_column c.loop-middle.joined (normal_column (followed_column (column_at paths m) op) c.args.growing c.args.to)) c.told_op.ensures))

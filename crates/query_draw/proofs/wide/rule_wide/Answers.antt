@@ -1,16 +1,14 @@
 use Rattle.std.proofs.Common.{◌≡◌, length, take, true, sym, ap, subst, ◌∙◌}
 use Rattle.std.specs.List.{list_all}
 use Rattle.std.proofs.lemmas.List.Folds.{list_all-map}
-use Rattle.sel_algebra.specs.Table.{one_of, table_of}
+use Rattle.sel_algebra.specs.Table.{one_of}
 use Rattle.sel_algebra.specs.Greatest.{greatest_class_of}
-use Rattle.sel_algebra.proofs.TableLemmas.{IsMatrix-one_of}
 use Rattle.skeletons.specs.Skeleton.{spine_of}
 use Rattle.query_terms.specs.Spans.{cut, lies}
 use Rattle.query_terms.specs.Lists.{conjuncts_in}
-use Rattle.query_draw.specs.Columns.{told_at, AreNormal}
+use Rattle.query_draw.specs.Classes.{IsGreatestOver}
 use Rattle.query_draw.specs.Wide.{spine_matrix}
-use Rattle.query_draw.proofs.ColumnLemmas.{AreNormal-columns, told_table}
-use Rattle.query_draw.proofs.WideLemmas.{spine_kinds, spine_is_matrix}
+use Rattle.query_draw.proofs.WideLemmas.{spine_kinds}
 use Rattle.query_draw.proofs.MatrixLemmas.{passes_first, passes_cut, rule_conjuncts_pass, spine_part}
 use Rattle.query_draw.proofs.wide.rule_wide.Goals as goal
 
@@ -28,27 +26,13 @@ follow_spine-requires-clause-edges c =
     let first = c.first-spine.ensures ∙ ap (λ cs. take c.spine_of.result cs) c.cut-conjuncts.ensures in
     rule_conjuncts_pass (length c.args.schema.now.edges) q.symbols.now q.words.now q.conjuncts.now c.first-spine.result.now c.args.rule.now c.spine_of.result c.requires.edges first
 
-pub matrix_of-requires-clause-normal : goal.matrix_of-requires-clause-normal
-matrix_of-requires-clause-normal c =
-    let g = c.args.schema.now in
-    let q = c.args.query.now in
-    let few = c.requires.work.few in
-    let cs = conjuncts_in q.symbols.now q.words.now c.first-spine.result.now in
-    let spine = c.follow_spine.new.work.spine in
-    subst (λ ks. AreNormal ks spine) (sym c.kinds.ensures.kinds)
-    (AreNormal-columns g.kinds spine (spine_matrix g cs) (spine_is_matrix g (one_of g.kinds) cs (IsMatrix-one_of g.kinds few)) (spine_kinds g (one_of g.kinds) cs) c.follow_spine.ensures.spine)
-
 pub returns-clause-value : goal.returns-clause-value
 returns-clause-value c =
     let g = c.args.schema.now in
     let q = c.args.query.now in
-    let few = c.requires.work.few in
     let cs = conjuncts_in q.symbols.now q.words.now c.first-spine.result.now in
-    let spine = c.follow_spine.new.work.spine in
-    let table = told_table g.kinds spine (spine_matrix g cs) (spine_is_matrix g (one_of g.kinds) cs (IsMatrix-one_of g.kinds few)) (spine_kinds g (one_of g.kinds) cs) c.follow_spine.ensures.spine in
     let first = c.first-spine.ensures ∙ ap (λ xs. take c.spine_of.result xs) c.cut-conjuncts.ensures in
     let short = c.spine_of.ensures.value ∙ ap (λ xs. spine_of q.shape (length xs)) c.cut-conjuncts.ensures in
-    c.greatest_class.ensures.value
-    ∙ ap greatest_class_of
-    (c.in_ok-matrix.ensures ∙ (ap (λ ks. table_of ks (told_at spine)) c.kinds.ensures.kinds
-    ∙ (table ∙ ap (spine_matrix g) (spine_part q.symbols.now q.words.now q.conjuncts.now c.first-spine.result.now c.args.rule.now q.shape c.spine_of.result first short))))
+    let greatest = subst (λ ks. IsGreatestOver ks c.follow_spine.new.work.spine c.greatest_class.result) c.kinds.ensures.kinds c.greatest_class.ensures in
+    greatest (spine_matrix g cs) (spine_kinds g (one_of g.kinds) cs) c.follow_spine.ensures.spine
+    ∙ ap (λ xs. greatest_class_of (spine_matrix g xs)) (spine_part q.symbols.now q.words.now q.conjuncts.now c.first-spine.result.now c.args.rule.now q.shape c.spine_of.result first short)

@@ -9,15 +9,15 @@ use Rattle.query_draw.specs.Wide.{rule_wide}
 use Rattle.query_draw.proofs.MatrixLemmas.{passes_mapped, got_mapped, rules_pass, greatest_more}
 use Rattle.query_draw.proofs.wide.wide_class.Goals as goal
 
-pub rule_wide-requires-clause-lies : goal.rule_wide-requires-clause-lies
-rule_wide-requires-clause-lies c =
+pub rule_wide-class-requires-clause-lies : goal.rule_wide-class-requires-clause-lies
+rule_wide-class-requires-clause-lies c =
     let q = c.args.query.now in
     let n = length q.conjuncts.now in
     let i = c.loop-rule.rule-index in
     passes_mapped (lies n) (λ r. r.conjuncts) q.rules.now i _ q.rules_lie c.loop-rule-test.true
 
-pub rule_wide-requires-clause-edges : goal.rule_wide-requires-clause-edges
-rule_wide-requires-clause-edges c =
+pub rule_wide-class-requires-clause-edges : goal.rule_wide-class-requires-clause-edges
+rule_wide-class-requires-clause-edges c =
     let q = c.args.query.now in
     rules_pass (length q.labels.now) (length c.args.schema.now.edges) q.symbols.now q.words.now q.conjuncts.now q.rules.now c.loop-rule.rule-index _ q.rules_are c.requires c.loop-rule-test.true
 
@@ -29,8 +29,8 @@ loop-rule-preserved c =
     let f = rule_wide c.args.schema.now q.shape in
     let within = subst (λ n. i < n) (sym (length-map q.rules.now whole)) c.loop-rule-test.true in
     record {
-      work = c.in_ok-class.ensures.work;
+      work = c.rule_wide-class.ensures.work;
       so_far =
           greatest_more f (greatest_of (map f (query_value q).rules)) c.loop-rule.wide c.greater_class-wide.result (query_value q).rules i _ within c.loop-rule.invariant.so_far
-          (c.greater_class-wide.ensures ∙ ap (greater_class c.loop-rule.wide) (c.in_ok-class.ensures.value ∙ ap f (sym (got_mapped whole q.rules.now i _))));
+          (c.greater_class-wide.ensures ∙ ap (greater_class c.loop-rule.wide) (c.rule_wide-class.ensures.value ∙ ap f (sym (got_mapped whole q.rules.now i _))));
     }
