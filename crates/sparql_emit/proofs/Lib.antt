@@ -10,5 +10,7 @@ pub mod ReadingLemmas
 pub mod TodoLemmas
 pub mod LineLemmas
 pub mod QueryLemmas
+pub mod WordLemmas
+pub mod FitLemmas
 pub mod ExampleLemmas
 pub mod RowLemmas

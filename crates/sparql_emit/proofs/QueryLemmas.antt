@@ -1,29 +1,23 @@
--- The lines of a query by its lists are those of its value, and its text has the reading.
-use Rattle.std.proofs.Common.{◌≡◌, ◌<◌, ℕ, Bool, true, ◌&&◌, nat_lt, List, [], ◌∷◌, ◌++◌, length, map, take, drop, codes, refl, sym, ap, ◌∙◌}
-use Rattle.std.specs.List.{Contains, All, flat_map, join_by, list_all}
+-- The lines of a query's rules are those of its value, and its text has the reading.
+use Rattle.std.proofs.Common.{◌≡◌, ℕ, Bool, true, List, [], ◌∷◌, ◌++◌, length, map, take, drop, codes, refl, sym, ap, ◌∙◌}
+use Rattle.std.specs.List.{All, flat_map, join_by, list_all}
 use Rattle.std.proofs.lemmas.Bool.{and_parts}
 use Rattle.std.proofs.lemmas.List.{take-map, drop-map, append_assoc}
-use Rattle.std.proofs.lemmas.List.Elements.{Contains-get_or}
-use Rattle.std.proofs.lemmas.List.Folds.{flat_map-map, list_all-append}
+use Rattle.std.proofs.lemmas.List.Folds.{flat_map-map, list_all-append, list_all-map}
 use Rattle.gm_text.specs.declared.lists.Span.{Span}
-use Rattle.graph_text.proofs.MemberLemmas.{Contains-first, Contains-later}
 use Rattle.sel_algebra.specs.declared.vocabulary.Symbol.{Symbol}
-use Rattle.query_terms.specs.declared.terms.Term.{Term}
+use Rattle.query_terms.specs.declared.query.Query.{Query}
 use Rattle.query_terms.specs.declared.terms.Conjunct.{Conjunct}
 use Rattle.query_terms.specs.declared.terms.Rule.{Rule}
-use Rattle.query_terms.specs.Values.{ConjunctValue, conjuncts_of, are_rules}
-use Rattle.query_terms.specs.Lists.{words_in, heads_in, is_heads, conjunct_in, conjuncts_in, rule_in, rules_in}
-use Rattle.query_terms.specs.Spans.{cut, covers, lies}
-use Rattle.query_terms.specs.Laws.{tree_of_conjunct}
-use Rattle.query_terms.specs.Numbering.{numbering}
-use Rattle.query_terms.specs.Trees.{tree_at}
+use Rattle.query_terms.specs.Values.{conjuncts_of, are_rules}
+use Rattle.query_terms.specs.Lists.{heads_in, is_heads, rules_in}
+use Rattle.query_terms.specs.Spans.{cut, lies}
 use Rattle.query_terms.proofs.SpanLemmas.{and_true, list_all_more}
-use Rattle.rpq_meaning.proofs.QueryLemmas.{cut-member, inside_all, tree_of_term}
 use Rattle.rpq_meaning.proofs.RowLemmas.{rules_fit}
-use Rattle.sparql_emit.specs.QueryText.{pattern_text, conjunct_text, rule_line}
-use Rattle.sparql_emit.specs.Laws.{has_names, conjunct_has_names}
+use Rattle.sparql_emit.specs.QueryText.{conjunct_text, rule_line}
+use Rattle.sparql_emit.specs.Laws.{conjunct_has_names}
 use Rattle.sparql_emit.specs.RowLaws.{has_few_variables}
-use Rattle.sparql_emit.specs.Lines.{FitsQuery, term_text, line_of, lines_of, term_is_plain, line_is_plain}
+use Rattle.sparql_emit.specs.Words.{conjunct_of, rule_of, RuleFits, is_plain}
 
 -- each part of a text is written behind the one before it
 pub three_written : (a b c : List ℕ) (one two three four : List ℕ) → one ≡ a → two ≡ one ++ b → three ≡ two ++ c → four ≡ three ++ codes "}\n"
@@ -33,78 +27,65 @@ three_written a b c one two three four first second third fourth =
     ∙ ((λ i. (third ∙ ap (λ (bs : List ℕ). bs ++ c) (second ∙ ap (λ (bs : List ℕ). bs ++ b) first)) i ++ codes "}\n")
     ∙ (append_assoc (a ++ b) c (codes "}\n") ∙ append_assoc a b (c ++ codes "}\n")))
 
--- ---- lists of the same, item by item
-
-flat_map-same : {X Y : Type 0} (f : X → List ℕ) (g : Y → List ℕ) (h : X → Y) (xs : List X) → ((x : X) → Contains xs x → f x ≡ g (h x)) → flat_map f xs ≡ flat_map g (map h xs)
-flat_map-same f g h [] same = refl
-flat_map-same f g h (x ∷ xs) same = λ i. same x (Contains-first x xs) i ++ flat_map-same f g h xs (λ y has. same y (Contains-later x y xs has)) i
-
-list_all-same : {X Y : Type 0} (p : X → Bool) (q : Y → Bool) (h : X → Y) (xs : List X) → ((x : X) → Contains xs x → p x ≡ q (h x)) → list_all p xs ≡ list_all q (map h xs)
-list_all-same p q h [] same = refl
-list_all-same p q h (x ∷ xs) same = λ i. same x (Contains-first x xs) i && list_all-same p q h xs (λ y has. same y (Contains-later x y xs has)) i
-
-join_by-map : {X Y : Type 0} (f : Y → List ℕ) (between : List ℕ) (h : X → Y) (xs : List X) → join_by (λ x. f (h x)) between xs ≡ join_by f between (map h xs)
+pub join_by-map : {X Y : Type 0} (f : Y → List ℕ) (between : List ℕ) (h : X → Y) (xs : List X) → join_by (λ x. f (h x)) between xs ≡ join_by f between (map h xs)
 join_by-map f between h [] = refl
 join_by-map f between h (x ∷ xs) = ap (λ (bs : List ℕ). f (h x) ++ bs) (sym (flat_map-map (λ y. between ++ f y) h xs))
 
-cut_map : {X Y : Type 0} (f : X → Y) (xs : List X) (s : Span) → cut (map f xs) s ≡ map f (cut xs s)
+pub cut_map : {X Y : Type 0} (f : X → Y) (xs : List X) (s : Span) → cut (map f xs) s ≡ map f (cut xs s)
 cut_map f xs s = ap (take s.count) (drop-map f s.first xs) ∙ take-map f s.count (drop s.first xs)
 
 -- ---- what a query's lists keep
 
-pub terms_within : (n : ℕ) (conjuncts : List Conjunct) → list_all (λ k. nat_lt k n) (map (λ c. c.term) conjuncts) ≡ true → All (λ c. c.term < n) conjuncts
-terms_within n conjuncts lie k d within = inside_all n conjuncts lie _ (Contains-get_or conjuncts k d within)
-
 pub rules_within : (edges : ℕ) (symbols : List Symbol) (words : List Span) (conjuncts : List Conjunct) (rules : List Rule)
     → list_all (lies (length conjuncts)) (map (λ r. r.conjuncts) rules) ≡ true → list_all (λ r. is_heads r.heads) rules ≡ true
-    → are_rules edges (rules_in symbols words conjuncts rules) ≡ true → All (FitsQuery (length conjuncts)) rules
+    → are_rules edges (rules_in symbols words conjuncts rules) ≡ true → All (RuleFits (length conjuncts)) rules
 rules_within edges symbols words conjuncts rules lie heads keep k d within =
     let fits = rules_fit edges symbols words conjuncts rules lie heads keep k d within in
     record { part = fits.part; heads = fits.heads }
 
-module _ (names : List (List ℕ)) (labels : List ℕ) (symbols : List Symbol) (words : List Span) (conjuncts : List Conjunct) (rules : List Rule) (terms : List Term)
-    (cover : covers 0 (map (λ r. r.conjuncts) rules) (length conjuncts) ≡ true)
-    (keep : are_rules (length labels) (rules_in symbols words conjuncts rules) ≡ true)
-    (terms_are : terms ≡ (numbering labels (rules_in symbols words conjuncts rules)).terms)
-    (numbers_are : map (λ c. c.term) conjuncts ≡ (numbering labels (rules_in symbols words conjuncts rules)).numbers) where
-  same_tree : (c : Conjunct) → Contains conjuncts c → tree_at terms c.term ≡ tree_of_conjunct labels (conjunct_in (words_in symbols words) c)
-  same_tree c has = tree_of_term labels symbols words conjuncts rules terms cover keep terms_are numbers_are c has
+module _ (names : List (List ℕ)) (q : Query) where
+  -- ---- the conjuncts of a rule, one by one
 
-  line_same : (r : Rule) → line_of names terms conjuncts r ≡ rule_line names labels (rule_in (conjuncts_in symbols words conjuncts) r)
-  line_same r =
-      let heads = heads_in r.heads in
-      let texts = flat_map-same (term_text names terms heads) (conjunct_text names labels heads) (conjunct_in (words_in symbols words)) (cut conjuncts r.conjuncts)
-      (λ c has. ap (pattern_text names heads c.src c.trg) (same_tree c (cut-member conjuncts r.conjuncts c has))) in
-      ap (λ (bs : List ℕ). codes "{" ++ (bs ++ codes " }\n"))
-      (texts ∙ ap (flat_map (conjunct_text names labels heads)) (sym (cut_map (conjunct_in (words_in symbols words)) conjuncts r.conjuncts)))
+  -- the line with as many conjuncts as the rule has
+  pub line_done : (r : Rule) (conjuncts : List Conjunct) (out begun now done : List ℕ) → conjuncts ≡ cut q.conjuncts.now r.conjuncts → begun ≡ out ++ codes "{"
+      → now ≡ begun ++ flat_map (λ c. conjunct_text names q.labels.now (heads_in r.heads) (conjunct_of q c)) conjuncts → done ≡ now ++ codes " }\n"
+      → done ≡ out ++ rule_line names q.labels.now (rule_of q r)
+  line_done r conjuncts out begun now done are begin texts end =
+      let f = conjunct_text names q.labels.now (heads_in r.heads) in
+      let same : flat_map (λ c. f (conjunct_of q c)) conjuncts ≡ flat_map f (rule_of q r).conjuncts =
+      sym (flat_map-map f (conjunct_of q) conjuncts) ∙ ap (flat_map f) (ap (map (conjunct_of q)) are ∙ sym (cut_map (conjunct_of q) q.conjuncts.now r.conjuncts)) in
+      end
+      ∙ (ap (λ (bs : List ℕ). bs ++ codes " }\n") (texts ∙ λ i. begin i ++ same i)
+      ∙ (append_assoc (out ++ codes "{") (flat_map f (rule_of q r).conjuncts) (codes " }\n")
+      ∙ append_assoc out (codes "{") (flat_map f (rule_of q r).conjuncts ++ codes " }\n")))
 
-  pub lines_same : lines_of names terms conjuncts rules ≡ join_by (rule_line names labels) (codes "UNION\n") (rules_in symbols words conjuncts rules)
-  lines_same =
-      (λ i. join_by (λ r. line_same r i) (codes "UNION\n") rules)
-      ∙ join_by-map (rule_line names labels) (codes "UNION\n") (rule_in (conjuncts_in symbols words conjuncts)) rules
+  pub line_plain : (r : Rule) (conjuncts : List Conjunct) → conjuncts ≡ cut q.conjuncts.now r.conjuncts
+      → list_all (λ c. is_plain names q.labels.now (conjunct_of q c)) conjuncts ≡ true → list_all (is_plain names q.labels.now) (rule_of q r).conjuncts ≡ true
+  line_plain r conjuncts are plain =
+      ap (list_all (is_plain names q.labels.now)) (cut_map (conjunct_of q) q.conjuncts.now r.conjuncts ∙ ap (map (conjunct_of q)) (sym are))
+      ∙ (list_all-map (is_plain names q.labels.now) (conjunct_of q) conjuncts ∙ plain)
 
-  abbrev value_is_plain : ConjunctValue → Bool
-  value_is_plain v = conjunct_has_names names labels v && has_few_variables v
+  -- ---- the rules, one by one
 
-  line_plain : (r : Rule) → line_is_plain names terms conjuncts r ≡ true → list_all value_is_plain (cut (conjuncts_in symbols words conjuncts) r.conjuncts) ≡ true
-  line_plain r plain =
-      ap (list_all value_is_plain) (cut_map (conjunct_in (words_in symbols words)) conjuncts r.conjuncts)
-      ∙ (sym (list_all-same (term_is_plain names terms) value_is_plain (conjunct_in (words_in symbols words)) (cut conjuncts r.conjuncts)
-      (λ c has. ap (λ t. has_names names t && (nat_lt c.src 256 && nat_lt c.trg 256)) (same_tree c (cut-member conjuncts r.conjuncts c has)))) ∙ plain)
+  pub lines_same : join_by (λ r. rule_line names q.labels.now (rule_of q r)) (codes "UNION\n") q.rules.now
+      ≡ join_by (rule_line names q.labels.now) (codes "UNION\n") (map (rule_of q) q.rules.now)
+  lines_same = join_by-map (rule_line names q.labels.now) (codes "UNION\n") (rule_of q) q.rules.now
 
-  lines_plain : (rs : List Rule) → list_all (line_is_plain names terms conjuncts) rs ≡ true → list_all value_is_plain (conjuncts_of (map (rule_in (conjuncts_in symbols words conjuncts)) rs)) ≡ true
+  abbrev rule_is_plain : Rule → Bool
+  rule_is_plain r = list_all (is_plain names q.labels.now) (rule_of q r).conjuncts
+
+  lines_plain : (rs : List Rule) → list_all rule_is_plain rs ≡ true → list_all (is_plain names q.labels.now) (conjuncts_of (map (rule_of q) rs)) ≡ true
   lines_plain [] plain = refl
   lines_plain (r ∷ rs) plain =
-      let parts = and_parts (line_is_plain names terms conjuncts r) (list_all (line_is_plain names terms conjuncts) rs) plain in
-      list_all-append value_is_plain (cut (conjuncts_in symbols words conjuncts) r.conjuncts) (conjuncts_of (map (rule_in (conjuncts_in symbols words conjuncts)) rs))
-      ∙ and_true (line_plain r parts.0) (lines_plain rs parts.1)
+      let parts = and_parts (rule_is_plain r) (list_all rule_is_plain rs) plain in
+      list_all-append (is_plain names q.labels.now) (rule_of q r).conjuncts (conjuncts_of (map (rule_of q) rs)) ∙ and_true parts.0 (lines_plain rs parts.1)
 
-  pub labels_named : list_all (line_is_plain names terms conjuncts) rules ≡ true → list_all (conjunct_has_names names labels) (conjuncts_of (rules_in symbols words conjuncts rules)) ≡ true
+  pub labels_named : list_all rule_is_plain q.rules.now ≡ true → list_all (conjunct_has_names names q.labels.now) (conjuncts_of (map (rule_of q) q.rules.now)) ≡ true
   labels_named plain =
-      list_all_more value_is_plain (conjunct_has_names names labels) (conjuncts_of (rules_in symbols words conjuncts rules))
-      (λ v is. (and_parts (conjunct_has_names names labels v) _ is).0) (lines_plain rules plain)
+      list_all_more (is_plain names q.labels.now) (conjunct_has_names names q.labels.now) (conjuncts_of (map (rule_of q) q.rules.now))
+      (λ v is. (and_parts (conjunct_has_names names q.labels.now v) _ is).0) (lines_plain q.rules.now plain)
 
-  pub variables_few : list_all (line_is_plain names terms conjuncts) rules ≡ true → list_all has_few_variables (conjuncts_of (rules_in symbols words conjuncts rules)) ≡ true
+  pub variables_few : list_all rule_is_plain q.rules.now ≡ true → list_all has_few_variables (conjuncts_of (map (rule_of q) q.rules.now)) ≡ true
   variables_few plain =
-      list_all_more value_is_plain has_few_variables (conjuncts_of (rules_in symbols words conjuncts rules))
-      (λ v is. (and_parts (conjunct_has_names names labels v) _ is).1) (lines_plain rules plain)
+      list_all_more (is_plain names q.labels.now) has_few_variables (conjuncts_of (map (rule_of q) q.rules.now))
+      (λ v is. (and_parts (conjunct_has_names names q.labels.now v) _ is).1) (lines_plain q.rules.now plain)

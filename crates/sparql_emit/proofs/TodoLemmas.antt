@@ -21,7 +21,7 @@ use Rattle.sparql_emit.specs.Todo.{is_alt_at, is_seq_at, nested, after, step_tex
 
 -- ---- the tree of a term that is in the store
 
-tree_is : (terms : List Term) (k : ℕ) (t : Term) → IsStore terms → slice_get terms k ≡ Some t → tree_at terms k ≡ tree_of (trees_of terms) t
+pub tree_is : (terms : List Term) (k : ℕ) (t : Term) → IsStore terms → slice_get terms k ≡ Some t → tree_at terms k ≡ tree_of (trees_of terms) t
 tree_is terms k t store at =
     let less : k < length terms = slice_get_within terms k t at in
     let whole : terms ≡ take k terms ++ t ∷ drop (suc k) terms =
@@ -48,11 +48,11 @@ children_more m n (Opt a) more below = omega (arith, more, below)
 pub parts_below : (terms : List Term) (k : ℕ) (t : Term) → IsStore terms → slice_get terms k ≡ Some t → ChildrenBelow (length terms) t
 parts_below terms k t store at = children_more k (length terms) t (slice_get_within terms k t at) (store.children k t at)
 
-record IsHere (terms : List Term) (k : ℕ) : Type 0 where
-  term : Term
-  at : slice_get terms k ≡ Some term
+pub record IsHere (terms : List Term) (k : ℕ) : Type 0 where
+  pub term : Term
+  pub at : slice_get terms k ≡ Some term
 
-is_here : (terms : List Term) (k : ℕ) → k < length terms → IsHere terms k
+pub is_here : (terms : List Term) (k : ℕ) → k < length terms → IsHere terms k
 is_here terms k less = record { term = get_or terms k (Star 0); at = slice_get-get_or terms k (Star 0) less }
 
 alt_of : (trees : List Tree) (t : Term) → is_alt_at (t ∷ []) 0 ≡ is_alt (tree_of trees t)

@@ -3,6 +3,6 @@ pub mod QueryText
 pub mod Printed
 pub mod Laws
 pub mod Todo
-pub mod Lines
 pub mod Examples
 pub mod RowLaws
+pub mod Words

@@ -4,6 +4,7 @@
 pub mod laws;
 mod paths;
 mod queries;
+mod words;
 
 pub use paths::path_text;
 pub use queries::sparql_text;

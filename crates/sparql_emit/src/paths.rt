@@ -87,7 +87,12 @@ fn write_term(
 }
 
 /// Appends the text of a step with a label.
-fn write_step(out: &mut Vec<u8>, label: u8, back: bool, labels: &Names) -> Result<(), AllocError>
+pub(crate) fn write_step(
+    out: &mut Vec<u8>,
+    label: u8,
+    back: bool,
+    labels: &Names,
+) -> Result<(), AllocError>
     requires { label < length labels.now }
     ensures text { OnOk result (out.new.items ≡ out.old.items ++ path_text_of labels.now (Step label back)) }
     ensures name { OnOk result (has_names labels.now (Step label back) ≡ true) }

@@ -1,20 +1,19 @@
 //! The text of a query.
 
-ghost use Rattle.std.specs.Prelude.{◌≡◌, ◌<◌, ◌++◌, true, length, position, IfOk, OnOk};
-ghost use Rattle.std.specs.List.{All, list_all};
+ghost use Rattle.std.specs.Prelude.{◌≡◌, ◌++◌, true, length, codes, position, IfOk, OnOk};
+ghost use Rattle.std.specs.List.{All, list_all, join_by};
 ghost use Rattle.gm_text.specs.Lines.{is_byte};
-ghost use Rattle.query_terms.specs.Spans.{cut, lies};
 ghost use Rattle.query_terms.specs.View.{query_value};
 ghost use Rattle.sparql_read.specs.Text.{IsSparql, are_different};
-ghost use Rattle.sparql_emit.specs.QueryText.{head_name, variable_of, with_mark, heads_line, sparql_text_of};
+ghost use Rattle.sparql_emit.specs.QueryText.{head_name, variable_of, with_mark, heads_line, conjunct_text, rule_line, sparql_text_of};
 ghost use Rattle.sparql_emit.specs.Printed.{printed_of};
 ghost use Rattle.sparql_emit.specs.Laws.{has_label};
 ghost use Rattle.sparql_emit.specs.RowLaws.{HasQueryRows};
-ghost use Rattle.sparql_emit.specs.Lines.{FitsQuery, term_text, term_is_plain, line_of, line_is_plain, lines_of};
+ghost use Rattle.sparql_emit.specs.Words.{conjunct_of, rule_of, ConjunctFits, RuleFits, is_plain};
 
-use crate::paths::path_text;
+use crate::words::{part_of, write_path};
 use gm_text::{Names, write_decimal};
-use query_terms::{Conjunct, Query, Rule, Span, TermStore};
+use query_terms::{Conjunct, Query, Rule};
 use std::alloc::{AllocError, Global};
 
 /// The room for a step, one for each term. A name of up to 13 bytes takes no more, between `^:` and `/`.
@@ -38,14 +37,7 @@ pub fn sparql_text(alloc: Global, query: &Query<'_>, labels: &Names) -> Result<V
     let mut out = Vec::with_capacity(alloc, room)?;
     out.extend_from_slice(b"PREFIX : <http://gmark.example/>\n")?;
     write_heads(alloc, &mut out, query.arity())?;
-    write_rules(
-        alloc,
-        &mut out,
-        &query.terms,
-        query.conjuncts,
-        query.rules,
-        labels,
-    )?;
+    write_rules(alloc, &mut out, query, query.rules, labels)?;
     out.extend_from_slice(b"}\n")?;
     Ok(out)
 }
@@ -74,82 +66,68 @@ fn write_head(alloc: Global, out: &mut Vec<u8>, place: u64) -> Result<(), AllocE
     write_decimal(alloc, out, place)
 }
 
-/// Appends the rules, with a line between two.
+/// Appends rules of a query, with a line between two.
 fn write_rules(
     alloc: Global,
     out: &mut Vec<u8>,
-    terms: &TermStore<'_>,
-    conjuncts: &[Conjunct],
+    query: &Query<'_>,
     rules: &[Rule],
-    labels: &Names,
+    names: &Names,
 ) -> Result<(), AllocError>
-    requires labels { list_all (has_label (length labels.now)) terms.now ≡ true }
-    requires terms { All (λ c. c.term < length terms.now) conjuncts.now }
-    requires rules { All (FitsQuery (length conjuncts.now)) rules.now }
-    ensures text { OnOk result (out.new.items ≡ out.old.items ++ lines_of labels.now terms.now conjuncts.now rules.now) }
-    ensures plain { OnOk result (list_all (line_is_plain labels.now terms.now conjuncts.now) rules.now ≡ true) }
+    requires conjuncts { All (ConjunctFits query.now (length names.now)) query.now.conjuncts.now }
+    requires rules { All (RuleFits (length query.now.conjuncts.now)) rules.now }
+    ensures text { OnOk result (out.new.items ≡ out.old.items ++ join_by (λ r. rule_line names.now query.now.labels.now (rule_of query.now r)) (codes "UNION\n") rules.now) }
+    ensures plain { OnOk result (list_all (λ r. list_all (is_plain names.now query.now.labels.now) (rule_of query.now r).conjuncts) rules.now ≡ true) }
 {
     let [first, others @ ..] = rules else {
         return Ok(());
     };
-    write_rule(alloc, out, terms, conjuncts, first, labels)?;
+    write_rule(alloc, out, query, first, names)?;
     for rule in others {
         out.extend_from_slice(b"UNION\n")?;
-        write_rule(alloc, out, terms, conjuncts, rule, labels)?;
+        write_rule(alloc, out, query, rule, names)?;
     }
     Ok(())
 }
 
-/// Appends the line of a rule.
+/// Appends the line of a rule of a query.
 fn write_rule(
     alloc: Global,
     out: &mut Vec<u8>,
-    terms: &TermStore<'_>,
-    conjuncts: &[Conjunct],
+    query: &Query<'_>,
     rule: &Rule,
-    labels: &Names,
+    names: &Names,
 ) -> Result<(), AllocError>
-    requires labels { list_all (has_label (length labels.now)) terms.now ≡ true }
-    requires terms { All (λ c. c.term < length terms.now) conjuncts.now }
-    requires rule { FitsQuery (length conjuncts.now) rule.now }
-    ensures text { OnOk result (out.new.items ≡ out.old.items ++ line_of labels.now terms.now conjuncts.now rule.now) }
-    ensures plain { OnOk result (line_is_plain labels.now terms.now conjuncts.now rule.now ≡ true) }
+    requires conjuncts { All (ConjunctFits query.now (length names.now)) query.now.conjuncts.now }
+    requires rule { RuleFits (length query.now.conjuncts.now) rule.now }
+    ensures text { OnOk result (out.new.items ≡ out.old.items ++ rule_line names.now query.now.labels.now (rule_of query.now rule.now)) }
+    ensures plain { OnOk result (list_all (is_plain names.now query.now.labels.now) (rule_of query.now rule.now).conjuncts ≡ true) }
 {
     let heads = &rule.heads.vars[..rule.heads.count as usize];
     out.push(b'{')?;
-    for conjunct in part_of(conjuncts, rule.conjuncts) {
-        write_conjunct(alloc, out, terms, heads, conjunct, labels)?;
+    for conjunct in part_of(query.conjuncts, rule.conjuncts) {
+        write_conjunct(alloc, out, query, heads, conjunct, names)?;
     }
     out.extend_from_slice(b" }\n")?;
     Ok(())
 }
 
-/// A part of the conjuncts.
-fn part_of(conjuncts: &[Conjunct], span: Span) -> &[Conjunct]
-    requires { lies (length conjuncts.now) span ≡ true }
-    ensures { result.now ≡ cut conjuncts.now span }
-{
-    let from = &conjuncts[span.first as usize..];
-    &from[..span.count as usize]
-}
-
-/// Appends a conjunct of a rule with these heads.
+/// Appends a conjunct of a query, in a rule with these heads.
 fn write_conjunct(
     alloc: Global,
     out: &mut Vec<u8>,
-    terms: &TermStore<'_>,
+    query: &Query<'_>,
     heads: &[u8],
     conjunct: &Conjunct,
-    labels: &Names,
+    names: &Names,
 ) -> Result<(), AllocError>
-    requires labels { list_all (has_label (length labels.now)) terms.now ≡ true }
-    requires term { conjunct.now.term < length terms.now }
-    ensures text { OnOk result (out.new.items ≡ out.old.items ++ term_text labels.now terms.now heads.now conjunct.now) }
-    ensures plain { OnOk result (term_is_plain labels.now terms.now conjunct.now ≡ true) }
+    requires { ConjunctFits query.now (length names.now) conjunct.now }
+    ensures text { OnOk result (out.new.items ≡ out.old.items ++ conjunct_text names.now query.now.labels.now heads.now (conjunct_of query.now conjunct.now)) }
+    ensures plain { OnOk result (is_plain names.now query.now.labels.now (conjunct_of query.now conjunct.now) ≡ true) }
 {
     write_variable(alloc, out, heads, conjunct.src)?;
     out.push(b' ')?;
-    path_text(alloc, out, terms, conjunct.term, labels)?;
+    write_path(out, query, conjunct, names)?;
     write_variable(alloc, out, heads, conjunct.trg)?;
     out.extend_from_slice(b" .")
 }

@@ -5,14 +5,13 @@ use Rattle.sparql_emit.specs.QueryText.{heads_line}
 use Rattle.sparql_emit.specs.Printed.{printed_of}
 use Rattle.sparql_emit.specs.Laws.{IsPrintable}
 use Rattle.sparql_emit.proofs.ReadingLemmas.{text_has_reading}
-use Rattle.sparql_emit.proofs.QueryLemmas.{three_written, terms_within, rules_within, lines_same, labels_named, variables_few}
+use Rattle.sparql_emit.proofs.QueryLemmas.{three_written, rules_within, lines_same, labels_named, variables_few}
+use Rattle.sparql_emit.proofs.FitLemmas.{conjuncts_fit}
 use Rattle.sparql_emit.proofs.RowLemmas.{text_keeps_rows}
 use Rattle.sparql_emit.proofs.queries.sparql_text.Goals as goal
 
-pub write_rules-requires-clause-terms : goal.write_rules-requires-clause-terms
-write_rules-requires-clause-terms c =
-    let q = c.args.query.now in
-    terms_within (length q.terms) q.conjuncts.now q.terms_lie
+pub write_rules-requires-clause-conjuncts : goal.write_rules-requires-clause-conjuncts
+write_rules-requires-clause-conjuncts c = conjuncts_fit (length c.args.labels.now) c.args.query.now c.len.ensures.store c.requires.labels
 
 pub write_rules-requires-clause-rules : goal.write_rules-requires-clause-rules
 write_rules-requires-clause-rules c =
@@ -21,23 +20,18 @@ write_rules-requires-clause-rules c =
 
 pub returns-clause-text : goal.returns-clause-text
 returns-clause-text c =
-    let q = c.args.query.now in
-    let lines = lines_same c.args.labels.now q.labels.now q.symbols.now q.words.now q.conjuncts.now q.rules.now q.terms q.rules_cover q.rules_are q.terms_are q.numbers_are in
     three_written _ _ _ _ _ _ _
     (c.in_ok-extend_from_slice.ensures.items ∙ ap (λ (bs : List ℕ). bs ++ codes "PREFIX : <http://gmark.example/>\n") c.in_ok-out.ensures.items)
     (c.in_ok-write_heads.ensures ∙ ap (λ n. c.extend_from_slice.new.self.items ++ heads_line n) c.arity.ensures)
-    (c.in_ok-write_rules.ensures.text ∙ ap (λ (bs : List ℕ). c.write_heads.new.out.items ++ bs) lines)
+    (c.in_ok-write_rules.ensures.text ∙ ap (λ (bs : List ℕ). c.write_heads.new.out.items ++ bs) (lines_same c.args.labels.now c.args.query.now))
     c.in_ok-extend_from_slice-2.ensures.items
 
 -- the query can be printed
 printable : (c : goal.In_ok-extend_from_slice-2) → IsPrintable c.args.labels.now (query_value c.args.query.now)
-printable c =
-    let q = c.args.query.now in
-    record {
-      rules_are = q.rules_are;
-      labels_have_names = labels_named c.args.labels.now q.labels.now q.symbols.now q.words.now q.conjuncts.now q.rules.now q.terms q.rules_cover q.rules_are q.terms_are q.numbers_are
-          c.in_ok-write_rules.ensures.plain;
-    }
+printable c = record {
+  rules_are = c.args.query.now.rules_are;
+  labels_have_names = labels_named c.args.labels.now c.args.query.now c.in_ok-write_rules.ensures.plain;
+}
 
 pub returns-clause-reading : goal.returns-clause-reading
 returns-clause-reading c =
@@ -46,7 +40,5 @@ returns-clause-reading c =
 
 pub returns-clause-rows : goal.returns-clause-rows
 returns-clause-rows c =
-    let q = c.args.query.now in
-    let few = variables_few c.args.labels.now q.labels.now q.symbols.now q.words.now q.conjuncts.now q.rules.now q.terms q.rules_cover q.rules_are q.terms_are q.numbers_are
-    c.in_ok-write_rules.ensures.plain in
-    text_keeps_rows c.args.labels.now (query_value q) (printable c) c.requires.names few
+    let few = variables_few c.args.labels.now c.args.query.now c.in_ok-write_rules.ensures.plain in
+    text_keeps_rows c.args.labels.now (query_value c.args.query.now) (printable c) c.requires.names few
