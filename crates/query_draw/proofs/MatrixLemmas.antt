@@ -17,6 +17,7 @@ use Rattle.query_terms.specs.declared.terms.Conjunct.{Conjunct}
 use Rattle.query_terms.specs.declared.terms.Rule.{Rule}
 use Rattle.query_terms.specs.Values.{RuleValue, has_edge, is_word, is_conjunct, is_rule, are_rules, has_heads, have_heads, arity_of}
 use Rattle.query_terms.specs.Spans.{cut}
+use Rattle.query_terms.proofs.SpanLemmas.{fold_map_more, passes_mapped, cut-map}
 use Rattle.query_terms.specs.Lists.{words_in, conjunct_in, conjuncts_in, rule_in, rules_in}
 use Rattle.skeletons.specs.Skeleton.{spine_of}
 use Rattle.query_draw.specs.Values.{spine, greatest_of}
@@ -27,25 +28,6 @@ use Rattle.query_draw.specs.Wide.{symbol_matrix, times_symbol, word_matrix, plus
 fold_snoc : {X Y : Type 0} (f : Y → X → Y) (a : Y) (xs : List X) (x : X) → fold f a (xs ++ x ∷ []) ≡ f (fold f a xs) x
 fold_snoc f a [] x = refl
 fold_snoc f a (y ∷ xs) x = fold_snoc f (f a y) xs x
-
-map_snoc : {X Y : Type 0} (h : X → Y) (xs : List X) (x : X) → map h (xs ++ x ∷ []) ≡ map h xs ++ h x ∷ []
-map_snoc h [] x = refl
-map_snoc h (y ∷ xs) x = ap (λ ys. h y ∷ ys) (map_snoc h xs x)
-
--- a fold over what a function makes of the first elements, with one more
-pub fold_map_more : {X Y Z : Type 0} (f : Z → Y → Z) (h : X → Y) (a : Z) (xs : List X) (i : ℕ) (d : X) → i < length xs
-    → fold f a (map h (take (i + 1) xs)) ≡ f (fold f a (map h (take i xs))) (h (slice_index_or xs i d))
-fold_map_more f h a xs i d lt =
-    ap (λ ys. fold f a (map h ys)) (take_more xs i d lt) ∙ (ap (fold f a) (map_snoc h (take i xs) (slice_index_or xs i d)) ∙ fold_snoc f a (map h (take i xs)) (h (slice_index_or xs i d)))
-
-pub passes_nth : {X : Type 0} (p : X → Bool) (xs : List X) (i : ℕ) (d : X) → list_all p xs ≡ true → i < length xs → p (slice_index_or xs i d) ≡ true
-passes_nth p [] i d all lt = absurd (omega (arith, lt))
-passes_nth p (x ∷ xs) zero d all lt = (and_parts (p x) (list_all p xs) all).0
-passes_nth p (x ∷ xs) (suc i) d all lt = passes_nth p xs i d (and_parts (p x) (list_all p xs) all).1 (omega (arith, lt))
-
--- what passes each of what a function makes of a list
-pub passes_mapped : {X Y : Type 0} (p : Y → Bool) (h : X → Y) (xs : List X) (i : ℕ) (d : X) → list_all p (map h xs) ≡ true → i < length xs → p (h (slice_index_or xs i d)) ≡ true
-passes_mapped p h xs i d all lt = passes_nth (λ x. p (h x)) xs i d (sym (list_all-map p h xs) ∙ all) lt
 
 passes_take : {X : Type 0} (p : X → Bool) (n : ℕ) (xs : List X) → list_all p xs ≡ true → list_all p (take n xs) ≡ true
 passes_take p zero xs all = refl
@@ -65,9 +47,6 @@ passes_first p n xs all = passes_take p n xs all
 -- what passes on a list passes on each part of it
 pub passes_cut : {X : Type 0} (p : X → Bool) (xs : List X) (span : Span) → list_all p xs ≡ true → list_all p (cut xs span) ≡ true
 passes_cut p xs span all = passes_take p span.count (drop span.first xs) (passes_drop p span.first xs all)
-
-pub cut-map : {X Y : Type 0} (h : X → Y) (xs : List X) (span : Span) → cut (map h xs) span ≡ map h (cut xs span)
-cut-map h xs span = ap (take span.count) (drop-map h span.first xs) ∙ take-map h span.count (drop span.first xs)
 
 pub if_ok : {T E : Type 0} (P Q : T → Type 0) → ((x : T) → P x → Q x) → (r : Result T E) → IfOk r P → IfOk r Q
 if_ok P Q f (Ok x) p = f x p

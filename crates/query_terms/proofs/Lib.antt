@@ -7,3 +7,4 @@ pub mod LayoutLemmas
 pub mod TiedLemmas
 pub mod TreeLemmas
 pub mod QueryLemmas
+pub mod OutlineLemmas

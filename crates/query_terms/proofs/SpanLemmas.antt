@@ -1,9 +1,11 @@
 -- Parts of lists: what they are of a list that has more, and parts that stand one after the other.
-use Rattle.std.proofs.Common.{◌≡◌, ℕ, zero, suc, ◌+◌, ◌-◌, ◌≤◌, Bool, true, false, ◌&&◌, List, [], ◌∷◌, ◌++◌, map, take, drop, refl, sym, ap, ◌∙◌, true≢false, arith}
+use Rattle.std.proofs.Common.{◌≡◌, ℕ, zero, suc, ◌+◌, ◌-◌, ◌<◌, ◌≤◌, Bool, true, false, ◌&&◌, List, [], ◌∷◌, ◌++◌, length, map, take, drop, fold, refl, sym, ap, ◌∙◌, true≢false, arith}
 use Rattle.std.proofs.lemmas.Bool.{leb-true, le-leb, eqb-true, eq-eqb}
-use Rattle.std.proofs.lemmas.List.{drop-take, drop-drop}
+use Rattle.std.proofs.lemmas.List.{drop-take, drop-drop, take-map, drop-map, take_more, map-append}
+use Rattle.std.proofs.lemmas.List.Sums.{fold_push}
+use Rattle.std.proofs.lemmas.List.Folds.{list_all-map}
 use Rattle.std.proofs.Math.Seq.{take-add}
-use Rattle.std.specs.List.{list_all, flat_map}
+use Rattle.std.specs.List.{list_all, flat_map, slice_index_or}
 use Rattle.gm_text.specs.declared.lists.Span.{Span}
 use Rattle.query_terms.specs.Spans.{cut, lies, covers}
 
@@ -24,6 +26,42 @@ pub map_where : {X Y : Type 0} (f g : X → Y) (p : X → Bool) (xs : List X) �
 map_where f g p [] all same = refl
 map_where f g p (x ∷ xs) all same =
     λ i. same x (both (p x) (list_all p xs) all).0 i ∷ map_where f g p xs (both (p x) (list_all p xs) all).1 same i
+
+-- a fold over what a function makes of the first items, with one more
+pub fold_map_more : {X Y Z : Type 0} (f : Z → Y → Z) (h : X → Y) (a : Z) (xs : List X) (i : ℕ) (d : X) → i < length xs
+    → fold f a (map h (take (i + 1) xs)) ≡ f (fold f a (map h (take i xs))) (h (slice_index_or xs i d))
+fold_map_more f h a xs i d lt =
+    ap (λ ys. fold f a (map h ys)) (take_more xs i d lt)
+    ∙ ap (fold f a) (map-append h (take i xs) (slice_index_or xs i d ∷ []))
+    ∙ fold_push f a (map h (take i xs)) (h (slice_index_or xs i d))
+
+-- an item of a list whose items all pass
+passes_nth : {X : Type 0} (p : X → Bool) (xs : List X) (i : ℕ) (d : X) → list_all p xs ≡ true → i < length xs → p (slice_index_or xs i d) ≡ true
+passes_nth p [] i d all lt = absurd (omega (arith, lt))
+passes_nth p (x ∷ xs) zero d all lt = (both (p x) (list_all p xs) all).0
+passes_nth p (x ∷ xs) (suc i) d all lt = passes_nth p xs i d (both (p x) (list_all p xs) all).1 (omega (arith, lt))
+
+-- what passes each of what a function makes of a list
+pub passes_mapped : {X Y : Type 0} (p : Y → Bool) (h : X → Y) (xs : List X) (i : ℕ) (d : X) → list_all p (map h xs) ≡ true → i < length xs → p (h (slice_index_or xs i d)) ≡ true
+passes_mapped p h xs i d all lt = passes_nth (λ x. p (h x)) xs i d (sym (list_all-map p h xs) ∙ all) lt
+
+-- the items of a part of it
+pub passes_cut : {X : Type 0} (p : X → Bool) (xs : List X) (span : Span) → list_all p xs ≡ true → list_all p (cut xs span) ≡ true
+passes_cut p xs span all = passes-take p span.count (drop span.first xs) (passes-drop p span.first xs all)
+  where
+    passes-take : {X : Type 0} (p : X → Bool) (n : ℕ) (xs : List X) → list_all p xs ≡ true → list_all p (take n xs) ≡ true
+    passes-take p zero xs all = refl
+    passes-take p (suc n) [] all = refl
+    passes-take p (suc n) (x ∷ xs) all = and_true (both (p x) (list_all p xs) all).0 (passes-take p n xs (both (p x) (list_all p xs) all).1)
+
+    passes-drop : {X : Type 0} (p : X → Bool) (n : ℕ) (xs : List X) → list_all p xs ≡ true → list_all p (drop n xs) ≡ true
+    passes-drop p zero xs all = all
+    passes-drop p (suc n) [] all = refl
+    passes-drop p (suc n) (x ∷ xs) all = passes-drop p n xs (both (p x) (list_all p xs) all).1
+
+-- a part of what a function makes of a list
+pub cut-map : {X Y : Type 0} (h : X → Y) (xs : List X) (span : Span) → cut (map h xs) span ≡ map h (cut xs span)
+cut-map h xs span = ap (take span.count) (drop-map h span.first xs) ∙ take-map h span.count (drop span.first xs)
 
 take_none : {X : Type 0} (c : ℕ) → take {A = X} c [] ≡ []
 take_none zero = refl

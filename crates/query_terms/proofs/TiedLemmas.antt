@@ -1,5 +1,5 @@
 -- A builder keeps its terms with its lists.
-use Rattle.std.proofs.Common.{◌≡◌, ℕ, ◌+◌, ◌<◌, ◌≤◌, Bool, true, ◌==◌, true≢false, List, [], ◌∷◌, ◌++◌, length, Option, Some, None, is_some, refl, sym, ap, ◌∙◌, arith}
+use Rattle.std.proofs.Common.{◌≡◌, ℕ, ◌+◌, ◌<◌, Bool, true, ◌==◌, List, [], ◌∷◌, ◌++◌, length, Some, None, is_some, refl, sym, ap, ◌∙◌, arith}
 use Rattle.std.proofs.lemmas.Bool.{lt-ltb, eqb-true, eq-eqb}
 use Rattle.std.proofs.lemmas.List.{append_assoc, append-nil}
 use Rattle.std.proofs.lemmas.List.Folds.{list_all-append}
@@ -9,19 +9,19 @@ use Rattle.std.specs.List.{list_all}
 use Rattle.sel_algebra.specs.declared.vocabulary.Symbol.{Symbol}
 use Rattle.query_terms.specs.declared.terms.Term.{Term}
 use Rattle.query_terms.specs.Values.{ConjunctValue, RuleValue, conjuncts_of, has_edge, is_word, is_conjunct, has_heads, is_rule, have_heads, arity_of}
-use Rattle.query_terms.specs.Store.{Placed, put_of, terms_most}
+use Rattle.query_terms.specs.Store.{Placed, put_of}
 use Rattle.query_terms.specs.Numbering.{step_of, then_symbol, put_word, then_word, put_union, put_conjunct, then_conjunct, numbered}
 use Rattle.query_terms.specs.Building.{symbols_most}
 use Rattle.query_terms.specs.Underway.{Underway, underway, underway_from, with_step, with_choice, with_end, closed}
 use Rattle.query_terms.specs.Layout.{LayoutValue, with_conjunct, with_rule}
-use Rattle.query_terms.specs.Tied.{due, IsBuilding}
+use Rattle.query_terms.specs.Tied.{IsBuilding}
 use Rattle.query_terms.proofs.SpanLemmas.{both, and_true}
 
 -- the conjuncts so far
 abbrev pub all_of : LayoutValue → List ConjunctValue
 all_of l = conjuncts_of l.rules ++ l.conjuncts
 
-step-underway : (labels : List ℕ) (words : List (List Symbol)) (word : List Symbol) (p : Placed) (s : Symbol)
+pub step-underway : (labels : List ℕ) (words : List (List Symbol)) (word : List Symbol) (p : Placed) (s : Symbol)
     → with_step (underway_from labels words word p) (step_of labels s) ≡ underway_from labels words (word ++ s ∷ []) p
 step-underway labels words [] p s = refl
 step-underway labels words (t ∷ word) p s =
@@ -41,7 +41,7 @@ closed-underway : (labels : List ℕ) (cs : List ConjunctValue) (v : List Symbol
     → closed star (underway labels cs (v ∷ words) []) ≡ put_conjunct labels (numbered labels cs).terms (record { src = src; trg = trg; star = star; words = v ∷ words })
 closed-underway labels cs v words src trg star = refl
 
-numbered-push : (labels : List ℕ) (cs : List ConjunctValue) (c : ConjunctValue) → numbered labels (cs ++ c ∷ []) ≡ then_conjunct labels (numbered labels cs) c
+pub numbered-push : (labels : List ℕ) (cs : List ConjunctValue) (c : ConjunctValue) → numbered labels (cs ++ c ∷ []) ≡ then_conjunct labels (numbered labels cs) c
 numbered-push labels cs c = fold_push (then_conjunct labels) (record { terms = []; numbers = [] }) cs c
 
 push-all : {X : Type 0} (p : X → Bool) (xs : List X) (x : X) → list_all p xs ≡ true → p x ≡ true → list_all p (xs ++ x ∷ []) ≡ true
@@ -52,7 +52,6 @@ pub tied_new : (labels : List ℕ) → IsBuilding labels (record { rules = []; c
 tied_new labels = record {
   terms_are = refl;
   numbers_are = refl;
-  few_terms = omega arith;
   few_symbols = omega arith;
   rules = refl;
   heads = refl;
@@ -61,21 +60,14 @@ tied_new labels = record {
   word = refl;
 }
 
-due-most : (n : ℕ) (o : Option ℕ) → due n o ≤ n
-due-most n None = omega arith
-due-most n (Some k) = omega arith
-
 -- a symbol more
 pub tied_symbol : (labels : List ℕ) (l : LayoutValue) (u v : Underway) (s : Symbol) → IsBuilding labels l u → has_edge (length labels) s ≡ true → l.taken < symbols_most
-    → v ≡ with_step u (step_of labels s) → length v.terms ≤ length u.terms + 2 → IsBuilding labels (record l { word = l.word ++ s ∷ []; taken = l.taken + 1 }) v
-tied_symbol labels l u v s is edge room goes few =
+    → v ≡ with_step u (step_of labels s) → IsBuilding labels (record l { word = l.word ++ s ∷ []; taken = l.taken + 1 }) v
+tied_symbol labels l u v s is edge room goes =
     let N = (numbered labels (all_of l)).terms in
-    let same : v.union ≡ u.union = λ i. (goes i).union in
-    let most : due 2 v.word ≤ 2 = due-most 2 v.word in
     record {
       terms_are = goes ∙ (ap (λ w. with_step w (step_of labels s)) is.terms_are ∙ step-underway labels l.words l.word (put_union labels N l.words) s);
       numbers_are = is.numbers_are;
-      few_terms = omega (arith, is.few_terms, few, most, ap (due 1) same);
       few_symbols = omega (arith, room);
       rules = is.rules;
       heads = is.heads;
@@ -92,26 +84,19 @@ word-begun labels words (s ∷ word) p some = refl
 pub begun_word : (labels : List ℕ) (l : LayoutValue) (u : Underway) → IsBuilding labels l u → 0 < length l.word → is_some u.word ≡ true
 begun_word labels l u is some = ap (λ w. is_some w.word) is.terms_are ∙ word-begun labels l.words l.word (put_union labels (numbered labels (all_of l)).terms l.words) some
 
-due-some : (n : ℕ) (o : Option ℕ) → is_some o ≡ true → due n o ≡ n
-due-some n None h = absurd (true≢false (sym h))
-due-some n (Some k) h = refl
-
-choice-step : (labels : List ℕ) (terms : List Term) (words : List (List Symbol)) (word : List Symbol) → 0 < length word
+pub choice-step : (labels : List ℕ) (terms : List Term) (words : List (List Symbol)) (word : List Symbol) → 0 < length word
     → with_choice (underway_from labels words word (put_union labels terms words)) ≡ underway_from labels (words ++ word ∷ []) [] (put_union labels terms (words ++ word ∷ []))
 choice-step labels terms words [] some = absurd (omega (arith, some))
 choice-step labels terms words (s ∷ word) some = choice-underway labels terms words s word
 
 -- a word more
 pub tied_word : (labels : List ℕ) (l : LayoutValue) (u v : Underway) → IsBuilding labels l u → 0 < length l.word
-    → v ≡ with_choice u → length v.terms ≤ length u.terms + 1 → IsBuilding labels (record l { words = l.words ++ l.word ∷ []; word = [] }) v
-tied_word labels l u v is some goes few =
+    → v ≡ with_choice u → IsBuilding labels (record l { words = l.words ++ l.word ∷ []; word = [] }) v
+tied_word labels l u v is some goes =
     let N = (numbered labels (all_of l)).terms in
-    let ended : v.word ≡ None = λ i. (goes i).word in
-    let begun = due-some 2 u.word (begun_word labels l u is some) in
     record {
       terms_are = goes ∙ (ap with_choice is.terms_are ∙ choice-step labels N l.words l.word some);
       numbers_are = is.numbers_are;
-      few_terms = omega (arith, is.few_terms, few, begun, ap (due 2) ended, due-most 1 v.union);
       few_symbols = is.few_symbols;
       rules = is.rules;
       heads = is.heads;
@@ -130,7 +115,7 @@ begun_union labels l u is some = ap (λ w. is_some w.union) is.terms_are ∙ beg
 pub ended_word : (labels : List ℕ) (l : LayoutValue) (u : Underway) → IsBuilding labels l u → l.word ≡ [] → u.word ≡ None
 ended_word labels l u is none = ap (λ w. w.word) is.terms_are ∙ ap (λ w. (underway labels (all_of l) l.words w).word) none
 
-closed-step : (labels : List ℕ) (cs : List ConjunctValue) (words : List (List Symbol)) (src trg : ℕ) (star : Bool) → 0 < length words
+pub closed-step : (labels : List ℕ) (cs : List ConjunctValue) (words : List (List Symbol)) (src trg : ℕ) (star : Bool) → 0 < length words
     → closed star (underway labels cs words []) ≡ put_conjunct labels (numbered labels cs).terms (record { src = src; trg = trg; star = star; words = words })
 closed-step labels cs [] src trg star some = absurd (omega (arith, some))
 closed-step labels cs (w ∷ words) src trg star some = refl
@@ -143,23 +128,19 @@ closed_is labels l u src trg star is some none =
 
 -- a conjunct more
 pub tied_conjunct : (labels : List ℕ) (l : LayoutValue) (u v : Underway) (src trg : ℕ) (star : Bool) (term : ℕ) → IsBuilding labels l u → 0 < length l.words → l.word ≡ []
-    → v ≡ with_end star u → term ≡ (closed star u).number → length v.terms ≤ length u.terms + 1
+    → v ≡ with_end star u → term ≡ (closed star u).number
     → IsBuilding labels (with_conjunct l (record { src = src; trg = trg; star = star; words = l.words }) term) v
-tied_conjunct labels l u v src trg star term is some none goes at few =
+tied_conjunct labels l u v src trg star term is some none goes at =
     let c : ConjunctValue = record { src = src; trg = trg; star = star; words = l.words } in
     let closes = closed_is labels l u src trg star is some none in
     let more : conjuncts_of l.rules ++ (l.conjuncts ++ c ∷ []) ≡ all_of l ++ c ∷ [] = sym (append_assoc (conjuncts_of l.rules) l.conjuncts (c ∷ [])) in
     let all : numbered labels (conjuncts_of l.rules ++ (l.conjuncts ++ c ∷ [])) ≡ then_conjunct labels (numbered labels (all_of l)) c =
     ap (numbered labels) more ∙ numbered-push labels (all_of l) c in
-    let begun = due-some 1 u.union (begun_union labels l u is some) in
-    let no_word : v.word ≡ None = λ i. (goes i).word in
-    let no_union : v.union ≡ None = λ i. (goes i).union in
     record {
       terms_are = goes
           ∙ ((λ i. record { terms = ((λ j. (closes j).terms) ∙ (λ j. (sym all j).terms)) i; word = None; union = None })
           ∙ ap (λ w. underway labels (conjuncts_of l.rules ++ (l.conjuncts ++ c ∷ [])) [] w) (sym none));
       numbers_are = (λ i. is.numbers_are i ++ (at ∙ (λ j. (closes j).number)) i ∷ []) ∙ (λ i. (sym all i).numbers);
-      few_terms = omega (arith, is.few_terms, few, begun, ap (due 2) no_word, ap (due 1) no_union);
       few_symbols = is.few_symbols;
       rules = is.rules;
       heads = is.heads;
@@ -185,7 +166,6 @@ tied_rule labels l u heads is some same fit =
     record {
       terms_are = is.terms_are ∙ ap (λ cs. underway labels cs l.words l.word) all;
       numbers_are = is.numbers_are ∙ ap (λ cs. (numbered labels cs).numbers) all;
-      few_terms = is.few_terms;
       few_symbols = is.few_symbols;
       rules = push-all (is_rule (length labels)) l.rules r is.rules (and_true (and_true (lt-ltb 0 (length l.conjuncts) some) is.conjuncts) fit);
       heads = heads-push l.rules r same is.heads;
@@ -193,10 +173,3 @@ tied_rule labels l u heads is some same fit =
       words = is.words;
       word = is.word;
     }
-
--- there is room for the terms that a call may add
-pub room_symbol : (labels : List ℕ) (l : LayoutValue) (u : Underway) → IsBuilding labels l u → length u.terms + 2 ≤ terms_most
-room_symbol labels l u is = omega (arith, is.few_terms, is.few_symbols)
-
-pub room_end : (labels : List ℕ) (l : LayoutValue) (u : Underway) → IsBuilding labels l u → length u.terms + 1 ≤ terms_most
-room_end labels l u is = omega (arith, is.few_terms, is.few_symbols)

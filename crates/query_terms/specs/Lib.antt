@@ -12,4 +12,5 @@ pub mod Underway
 pub mod Layout
 pub mod Tied
 pub mod View
+pub mod Outline
 pub mod Laws

@@ -1,8 +1,7 @@
 -- A builder: its lists, and the terms that go with them.
 --   building_of labels l refused     what was put in so far
---   dues u                           how many more terms what is begun may ask for at its ends
 --   IsBuilding labels l u            the terms are those of what was put in, which keeps the rules of queries
-use Rattle.std.specs.Prelude.{◌≡◌, ℕ, ◌+◌, ◌*◌, ◌≤◌, Bool, true, List, ◌++◌, length, Option, Some, None}
+use Rattle.std.specs.Prelude.{◌≡◌, ℕ, ◌≤◌, Bool, true, List, ◌++◌, length}
 use Rattle.std.specs.List.{list_all}
 use Rattle.query_terms.specs.Values.{conjuncts_of, has_edge, is_word, is_conjunct, is_rule, have_heads, arity_of}
 use Rattle.query_terms.specs.Numbering.{numbered}
@@ -22,20 +21,10 @@ building_of labels l refused = record {
   refused = refused;
 }
 
--- a number of terms, where something is begun
-abbrev pub due : ℕ → Option ℕ → ℕ
-due n None = 0
-due n (Some k) = n
-
--- the end of a word and that of its conjunct may add a term each
-abbrev pub dues : Underway → ℕ
-dues u = due 2 u.word + due 1 u.union
-
 -- the terms and the numbers of the conjuncts are those of what was put in, which keeps the rules of queries so far
 pub record IsBuilding (labels : List ℕ) (l : LayoutValue) (u : Underway) : Type 0 where
   pub terms_are : u ≡ underway labels (conjuncts_of l.rules ++ l.conjuncts) l.words l.word
   pub numbers_are : l.numbers ≡ (numbered labels (conjuncts_of l.rules ++ l.conjuncts)).numbers
-  pub few_terms : length u.terms + dues u ≤ 4 * l.taken
   pub few_symbols : l.taken ≤ symbols_most
   pub rules : list_all (is_rule (length labels)) l.rules ≡ true
   pub heads : have_heads (arity_of l.rules) l.rules ≡ true

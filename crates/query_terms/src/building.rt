@@ -59,7 +59,8 @@ impl<'a> QueryBuilder<'a> {
     }
 
     /// The word that is begun has one symbol more.
-    #[tactic(auto, using(crate::proofs::TiedLemmas::tied_symbol, crate::proofs::TiedLemmas::room_symbol))]
+    #[inline]
+    #[tactic(auto, using(crate::proofs::TiedLemmas::tied_symbol))]
     pub fn symbol(&mut self, s: Symbol) -> Result<(), AllocError>
         requires usable { self.old.refused ≡ false }
         requires edge { has_edge (length self.old.labels) s ≡ true }
@@ -75,7 +76,7 @@ impl<'a> QueryBuilder<'a> {
     }
 
     /// The symbols are those of a word of the conjunct.
-    #[tactic(auto, using(crate::proofs::TiedLemmas::tied_word, crate::proofs::TiedLemmas::room_end, crate::proofs::TiedLemmas::begun_word))]
+    #[tactic(auto, using(crate::proofs::TiedLemmas::tied_word, crate::proofs::TiedLemmas::begun_word))]
     pub fn end_word(&mut self) -> Result<(), AllocError>
         requires usable { self.old.refused ≡ false }
         requires some { 0 < length self.old.word }
@@ -90,7 +91,7 @@ impl<'a> QueryBuilder<'a> {
 
     /// The words are those of a conjunct from variable `src` to variable `trg`, which may be repeated where it is
     /// starred.
-    #[tactic(auto, using(crate::proofs::TiedLemmas::tied_conjunct, crate::proofs::TiedLemmas::room_end, crate::proofs::TiedLemmas::begun_union, crate::proofs::TiedLemmas::ended_word))]
+    #[tactic(auto, using(crate::proofs::TiedLemmas::tied_conjunct, crate::proofs::TiedLemmas::begun_union, crate::proofs::TiedLemmas::ended_word))]
     pub fn end_conjunct(&mut self, src: u8, trg: u8, star: bool) -> Result<(), AllocError>
         requires usable { self.old.refused ≡ false }
         requires some { 0 < length self.old.words }

@@ -1,10 +1,10 @@
 //! Terms that are found again by what they are.
 
 ghost use Rattle.std.specs.Prelude.{◌≡◌, ◌≢◌, ◌≤◌, ◌<◌, ◌+◌, ℕ, [], length, slice_get, true, false, None, Some, IfSome, IfNone, IfOk, OnErr};
-ghost use Rattle.std.specs.Map.{lookup};
-ghost use Rattle.query_terms.specs.Store.{terms_most, is_term, number_of, ChildrenBelow, IsNumbered, put_of};
+ghost use Rattle.query_terms.specs.Store.{terms_most, ChildrenBelow, IsNumbered, put_of};
 ghost use Rattle.query_terms.specs.Index.{goes_on, IsIndexed};
 
+use crate::entries::find_or_put;
 use crate::terms::{Term, TermId};
 use indexmap::IndexMap;
 use std::alloc::{AllocError, Global};
@@ -50,6 +50,7 @@ impl TermIndex {
     }
 
     /// The number of terms.
+    #[inline(always)]
     pub(crate) fn len(&self) -> u32
         ensures count { result ≡ length self.now }
         ensures numbered { IsNumbered self.now }
@@ -58,6 +59,7 @@ impl TermIndex {
     }
 
     /// The term with a number.
+    #[inline(always)]
     pub(crate) fn get(&self, n: u32) -> Term
         requires { n < length self.now }
         ensures { slice_get self.now n ≡ Some result }
@@ -66,6 +68,7 @@ impl TermIndex {
     }
 
     /// The number of the term, which is added at the end where it isn't there.
+    #[inline(always)]
     pub(crate) fn put(&mut self, term: Term) -> Result<TermId, AllocError>
         requires children { ChildrenBelow (length self.old) term }
         requires room { length self.old < terms_most }
@@ -81,11 +84,29 @@ impl TermIndex {
             self.terms.push(term)?;
             return Ok(TermId::of(count));
         }
-        if let Some(number) = found(self.terms.as_slice(), &self.numbers, &term) {
-            return Ok(TermId::of(number));
+        self.put_by_number(term)
+    }
+
+    /// The number of the term, which is added at the end, with its number, where it isn't there.
+    #[inline(never)]
+    fn put_by_number(&mut self, term: Term) -> Result<TermId, AllocError>
+        requires children { ChildrenBelow (length self.old) term }
+        requires room { length self.old < terms_most }
+        ensures put { IfOk result (λ id. put_of self.old term ≡ record { terms = self.new; number = id }) }
+        ensures inside { IfOk result (λ id. slice_get self.new id ≡ Some term) }
+        ensures grows { length self.old ≤ length self.new }
+        ensures few { length self.new ≤ length self.old + 1 }
+        ensures numbered { IsNumbered self.new }
+        ensures refused { OnErr result (self.new ≡ self.old) }
+    {
+        let count = self.terms.as_slice().len() as u32;
+        if let Some(next) = found_next(self.terms.as_slice(), &term) {
+            return Ok(TermId::of(next));
         }
         self.terms.reserve(1)?;
-        self.numbers.insert(term, count)?;
+        if let Some(number) = find_or_put(&mut self.numbers, term, count)? {
+            return Ok(TermId::of(number));
+        }
         match self.terms.push(term) {
             Ok(()) => Ok(TermId::of(count)),
             Err(_) => unreachable!(),
@@ -94,6 +115,7 @@ impl TermIndex {
 }
 
 /// Whether the term is a sequence whose first part has the number before a number.
+#[inline(always)]
 fn follows(term: &Term, number: u32) -> bool
     requires { ChildrenBelow terms_most term.now }
     ensures { result ≡ goes_on term.now number }
@@ -101,23 +123,6 @@ fn follows(term: &Term, number: u32) -> bool
     match term {
         Term::Seq(first, _) => first.number() + 1 == number,
         _ => false,
-    }
-}
-
-/// The number of a term that is there.
-fn found(terms: &[Term], numbers: &IndexMap<Term, u32>, term: &Term) -> Option<u32>
-    requires indexed { IsIndexed terms.now numbers.now.entries }
-    requires children { ChildrenBelow (length terms.now) term.now }
-    ensures there { IfSome result (λ n. slice_get terms.now n ≡ Some term.now) }
-    ensures absent { IfNone result (length terms.now ≤ number_of terms.now term.now) }
-    ensures unknown { IfNone result (lookup (is_term term.now) numbers.now.entries ≡ None) }
-{
-    if let Some(next) = found_next(terms, term) {
-        return Some(next);
-    }
-    match numbers.get(term) {
-        Some(place) => Some(*place),
-        None => None,
     }
 }
 

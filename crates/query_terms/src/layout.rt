@@ -50,6 +50,7 @@ impl<'a> Layout<'a> {
     }
 
     /// The word has one symbol more.
+    #[inline]
     pub(crate) fn symbol(&mut self, symbol: Symbol) -> Result<(), AllocError>
         requires few { self.old.taken < symbols_most }
         ensures { OnOk result (self.new ≡ record self.old { word = self.old.word ++ symbol ∷ []; taken = self.old.taken + 1 }) }
@@ -59,6 +60,7 @@ impl<'a> Layout<'a> {
     }
 
     /// The word is one of the conjunct's.
+    #[inline]
     pub(crate) fn end_word(&mut self) -> Result<(), AllocError>
         requires some { 0 < length self.old.word }
         ensures { OnOk result (self.new ≡ record self.old { words = self.old.words ++ self.old.word ∷ []; word = [] }) }

@@ -6,10 +6,12 @@
 #![tactic(auto)]
 
 mod building;
+mod entries;
 mod index;
 pub mod laws;
 mod layout;
 mod listed;
+mod outline;
 mod query;
 mod steps;
 mod store;
@@ -19,6 +21,7 @@ mod words;
 
 pub use building::QueryBuilder;
 pub use gm_text::Span;
+pub use outline::Outline;
 pub use query::Query;
 pub use store::TermStore;
 pub use terms::{Conjunct, Heads, Rule, Term, TermId};

@@ -48,11 +48,7 @@ impl<'a> TermStore<'a> {
     pub fn new(alloc: Global, arena: &'a Arena) -> TermStore<'a>
         ensures { result ≡ [] }
     {
-        TermStore {
-            alloc,
-            arena,
-            terms: Terms::Indexed(TermIndex::new(alloc)),
-        }
+        TermStore::indexed(alloc, arena, TermIndex::new(alloc))
     }
 
     /// The number of the term, which is added at the end where it isn't there.
@@ -97,6 +93,17 @@ impl<'a> TermStore<'a> {
         ensures { result ≡ n }
     {
         TermId::of(n)
+    }
+
+    /// The store with terms that are found again.
+    pub(crate) fn indexed(alloc: Global, arena: &'a Arena, index: TermIndex) -> TermStore<'a>
+        ensures { result ≡ index }
+    {
+        TermStore {
+            alloc,
+            arena,
+            terms: Terms::Indexed(index),
+        }
     }
 
     /// The store with terms that are listed in the arena.

@@ -19,6 +19,7 @@ impl Model for TermId {
 
 impl TermId {
     /// The number of the term.
+    #[inline(always)]
     pub fn number(self) -> u32
         ensures { result ≡ self }
     {
@@ -26,6 +27,7 @@ impl TermId {
     }
 
     /// The term with this number.
+    #[inline(always)]
     pub(crate) fn of(n: u32) -> TermId
         ensures { result ≡ n }
     {

@@ -1,10 +1,11 @@
 //! The terms of a query that is being built.
 
-ghost use Rattle.std.specs.Prelude.{◌≡◌, ◌≤◌, ◌+◌, [], length, None, IfOk, OnOk, is_some, true};
+ghost use Rattle.std.specs.Prelude.{◌≡◌, ◌≤◌, ◌+◌, [], length, None, IsOk, IfOk, OnOk, is_some, true};
 ghost use Rattle.query_terms.specs.declared.terms.Term.TheVariants.{Step};
 ghost use Rattle.query_terms.specs.Store.{terms_most};
 ghost use Rattle.query_terms.specs.Underway.{with_step, with_choice, with_end, closed};
 
+use crate::TERMS_MOST;
 use crate::index::TermIndex;
 use crate::steps::put_step;
 use crate::store::TermStore;
@@ -50,12 +51,24 @@ impl<'a> Numbering<'a> {
         }
     }
 
-    /// The word goes on with a step.
-    pub(crate) fn step(&mut self, label: u8, back: bool) -> Result<(), AllocError>
-        requires room { length self.old.terms + 2 ≤ terms_most }
-        ensures goes_on { OnOk result (self.new ≡ with_step self.old (Step label back)) }
-        ensures few { length self.new.terms ≤ length self.old.terms + 2 }
+    /// Whether so many terms more can be numbered: else they are refused, as where memory is wanting.
+    #[inline(always)]
+    fn has_room(&self, count: u32) -> Result<(), AllocError>
+        requires { count ≤ terms_most }
+        ensures { IsOk result → length self.now.terms + count ≤ terms_most }
     {
+        if self.terms.len() > TERMS_MOST - count {
+            return Err(AllocError);
+        }
+        Ok(())
+    }
+
+    /// The word goes on with a step.
+    #[inline]
+    pub(crate) fn step(&mut self, label: u8, back: bool) -> Result<(), AllocError>
+        ensures goes_on { OnOk result (self.new ≡ with_step self.old (Step label back)) }
+    {
+        self.has_room(2)?;
         let step = put_step(&mut self.terms, &mut self.steps, label, back)?;
         let word = match self.word {
             None => step,
@@ -66,12 +79,12 @@ impl<'a> Numbering<'a> {
     }
 
     /// The word that was begun is one of the conjunct's.
+    #[inline]
     pub(crate) fn end_word(&mut self) -> Result<(), AllocError>
         requires begun { is_some self.old.word ≡ true }
-        requires room { length self.old.terms + 1 ≤ terms_most }
         ensures goes_on { OnOk result (self.new ≡ with_choice self.old) }
-        ensures few { length self.new.terms ≤ length self.old.terms + 1 }
     {
+        self.has_room(1)?;
         let Some(word) = self.word else {
             unreachable!()
         };
@@ -88,11 +101,10 @@ impl<'a> Numbering<'a> {
     pub(crate) fn end_conjunct(&mut self, star: bool) -> Result<TermId, AllocError>
         requires begun { is_some self.old.union ≡ true }
         requires word { self.old.word ≡ None }
-        requires room { length self.old.terms + 1 ≤ terms_most }
         ensures goes_on { OnOk result (self.new ≡ with_end star self.old) }
         ensures term { IfOk result (λ id. id ≡ (closed star self.old).number) }
-        ensures few { length self.new.terms ≤ length self.old.terms + 1 }
     {
+        self.has_room(1)?;
         let Some(union) = self.union else {
             unreachable!()
         };
@@ -110,5 +122,12 @@ impl<'a> Numbering<'a> {
         ensures { IfOk result (λ terms. terms ≡ self.entry.terms) }
     {
         TermStore::listed(self.alloc, self.arena, self.terms.as_slice())
+    }
+
+    /// The terms, which are found again.
+    pub(crate) fn into_index(self) -> TermStore<'a>
+        ensures { result ≡ self.entry.terms }
+    {
+        TermStore::indexed(self.alloc, self.arena, self.terms)
     }
 }

@@ -5,6 +5,7 @@ ghost use Rattle.query_terms.specs.Building.{symbols_most};
 ghost use Rattle.query_terms.specs.Lists.{words_in};
 ghost use Rattle.query_terms.specs.Layout.{AreWords};
 
+use crate::entries::find_or_put;
 use gm_text::{Arena, Span};
 use indexmap::IndexMap;
 use sel_algebra::Symbol;
@@ -64,6 +65,7 @@ impl<'a> WordTable<'a> {
     }
 
     /// The word has one symbol more.
+    #[inline]
     pub(crate) fn push(&mut self, symbol: Symbol) -> Result<(), AllocError>
         requires few { self.old.taken < symbols_most }
         ensures refused { OnErr result (self.new ≡ self.old) }
@@ -82,18 +84,17 @@ impl<'a> WordTable<'a> {
     {
         let ended = self.ended as usize;
         let word = items_from(self.symbols.as_slice(), ended);
-        if let Some(span) = self.index.get(word) {
-            self.spans.push(*span)?;
-            self.symbols.truncate(ended);
-            return Ok(());
-        }
         let span = Span {
             first: self.ended,
             count: word.len() as u32,
         };
         let kept = copy_out(self.alloc, word)?;
         self.spans.reserve(1)?;
-        self.index.insert(kept, span)?;
+        if let Some(earlier) = find_or_put(&mut self.index, kept, span)? {
+            self.spans.push(earlier)?;
+            self.symbols.truncate(ended);
+            return Ok(());
+        }
         self.ended += span.count;
         match self.spans.push(span) {
             Ok(()) => Ok(()),

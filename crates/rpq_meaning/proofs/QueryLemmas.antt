@@ -21,8 +21,8 @@ use Rattle.query_terms.specs.Spans.{cut, covers}
 use Rattle.query_terms.specs.Laws.{tree_of_conjunct}
 use Rattle.query_terms.specs.Numbering.{numbering}
 use Rattle.query_terms.specs.Trees.{tree_at}
-use Rattle.query_terms.proofs.SpanLemmas.{covers-join}
-use Rattle.query_terms.proofs.QueryLemmas.{conjuncts_keep}
+use Rattle.query_terms.proofs.SpanLemmas.{cut-map}
+use Rattle.query_terms.proofs.QueryLemmas.{conjuncts_are, conjuncts_keep}
 use Rattle.query_terms.proofs.TreeLemmas.{are_numbered}
 use Rattle.rpq_meaning.specs.QueryRows.{ArePairs}
 use Rattle.node_tables.specs.Tables.{table_in}
@@ -39,9 +39,6 @@ maps-member f h g k (y ∷ xs) same x has =
       | inl is ↦ subst (λ z. f (h z) ≡ g (k z)) is (ap (λ ws. slice_index_or ws 0 (f (h y))) same)
       | inr later ↦ maps-member f h g k xs (ap (drop 1) same) x later
     ]
-
-cut-map : {X Y : Type 0} (f : X → Y) (xs : List X) (s : Span) → cut (map f xs) s ≡ map f (cut xs s)
-cut-map f xs s = ap (take s.count) (drop-map f s.first xs) ∙ take-map f s.count (drop s.first xs)
 
 -- the members of a part are members of the list
 drop-member : {X : Type 0} (n : ℕ) (xs : List X) (x : X) → Contains (drop n xs) x → Contains xs x
@@ -65,17 +62,6 @@ cut-member xs s x has = drop-member s.first xs x (take-member s.count (drop s.fi
 pub inside_all : (n : ℕ) (conjuncts : List Conjunct) → list_all (λ k. nat_lt k n) (map (λ c. c.term) conjuncts) ≡ true → (c : Conjunct) → Contains conjuncts c → c.term < n
 inside_all n conjuncts lie c has =
     ltb-true c.term n (list_all-member (λ k. nat_lt k n) (map (λ c. c.term) conjuncts) lie c.term (Contains-map (λ c. c.term) conjuncts c has))
-
--- ---- the conjuncts of the rules are those of the query
-
-pub conjuncts_are : (symbols : List Symbol) (words : List Span) (conjuncts : List Conjunct) (rules : List Rule)
-    → covers 0 (map (λ r. r.conjuncts) rules) (length conjuncts) ≡ true → conjuncts_of (rules_in symbols words conjuncts rules) ≡ conjuncts_in symbols words conjuncts
-conjuncts_are symbols words conjuncts rules cover =
-    let cs = conjuncts_in symbols words conjuncts in
-    flat_map-map (λ r. r.conjuncts) (rule_in cs) rules
-    ∙ (sym (flat_map-map (cut cs) (λ r. r.conjuncts) rules)
-    ∙ (covers-join cs 0 (map (λ r. r.conjuncts) rules) (length conjuncts) cover
-    ∙ take_all (length conjuncts - 0) cs (omega (arith, length-map conjuncts (conjunct_in (words_in symbols words))))))
 
 module _ (labels : List ℕ) (symbols : List Symbol) (words : List Span) (conjuncts : List Conjunct) (rules : List Rule) (terms : List Term)
     (cover : covers 0 (map (λ r. r.conjuncts) rules) (length conjuncts) ≡ true)

@@ -20,8 +20,8 @@ use Rattle.query_terms.specs.Lists.{words_in, rules_in}
 use Rattle.query_terms.specs.Spans.{cut, lies}
 use Rattle.query_terms.specs.Laws.{tree_of_conjunct}
 use Rattle.query_terms.proofs.SpanLemmas.{and_true}
-use Rattle.query_terms.proofs.QueryLemmas.{conjuncts_keep}
-use Rattle.rpq_meaning.proofs.QueryLemmas.{cut-member, conjuncts_are, inside_all, tree_of_term}
+use Rattle.query_terms.proofs.QueryLemmas.{conjuncts_are, conjuncts_keep}
+use Rattle.rpq_meaning.proofs.QueryLemmas.{cut-member, inside_all, tree_of_term}
 use Rattle.sparql_emit.specs.Laws.{has_label}
 use Rattle.sparql_emit.specs.Words.{conjunct_of, SymbolFits, WordFits, ConjunctFits}
 use Rattle.sparql_emit.proofs.TodoLemmas.{IsHere, is_here, tree_is, list_all-get}

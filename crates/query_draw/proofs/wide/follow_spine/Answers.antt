@@ -9,7 +9,8 @@ use Rattle.query_draw.specs.Products.{IsProduct}
 use Rattle.query_draw.specs.Wide.{conjunct_matrix, times_conjunct, spine_matrix}
 use Rattle.query_draw.proofs.ColumnLemmas.{AreColumns-table_of}
 use Rattle.query_draw.proofs.WideLemmas.{spine_kinds}
-use Rattle.query_draw.proofs.MatrixLemmas.{passes_mapped, spine_more}
+use Rattle.query_terms.proofs.SpanLemmas.{passes_mapped}
+use Rattle.query_draw.proofs.MatrixLemmas.{spine_more}
 use Rattle.query_draw.proofs.wide.follow_spine.Goals as goal
 
 pub loop-conjunct-init : goal.loop-conjunct-init

@@ -6,7 +6,8 @@ use Rattle.query_terms.specs.Lists.{conjuncts_in, rule_in}
 use Rattle.query_terms.specs.View.{query_value}
 use Rattle.query_draw.specs.Values.{greatest_of}
 use Rattle.query_draw.specs.Wide.{rule_wide}
-use Rattle.query_draw.proofs.MatrixLemmas.{passes_mapped, got_mapped, rules_pass, greatest_more}
+use Rattle.query_terms.proofs.SpanLemmas.{passes_mapped}
+use Rattle.query_draw.proofs.MatrixLemmas.{got_mapped, rules_pass, greatest_more}
 use Rattle.query_draw.proofs.wide.wide_class.Goals as goal
 
 pub rule_wide-class-requires-clause-lies : goal.rule_wide-class-requires-clause-lies
