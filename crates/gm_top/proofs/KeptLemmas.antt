@@ -20,18 +20,18 @@ use Rattle.schema_graph.specs.Schema.{SchemaValue}
 use Rattle.schema_graph.specs.Configured.{schema_of}
 use Rattle.candidates.proofs.PickLemmas.{pick_of-below}
 use Rattle.seeded_draw.specs.Draw.{pick_of}
-use Rattle.query_terms.specs.Values.{ConjunctValue, RuleValue, QueryValue, has_edge, is_word, is_conjunct, have_heads, arity_of, has_class}
+use Rattle.query_terms.specs.Values.{ConjunctValue, RuleValue, has_edge, is_word, is_conjunct, have_heads, arity_of, has_class}
 use Rattle.query_draw.specs.Values.{Leads, LeadsWord}
 use Rattle.query_draw.specs.Laws.{ends_in}
 use Rattle.query_draw.specs.Drawn.{words_for, drawn_from}
-use Rattle.query_draw.specs.Query.{reach_of, drawn_shape, drawn_class, rule_count, rule_size, wanted_arity, drawn_arity, heads_of, drawn_rule, drawn_rules, has_query, query_of, narrow}
+use Rattle.query_draw.specs.Query.{reach_of, drawn_shape, drawn_class, rule_count, rule_size, wanted_arity, drawn_arity, heads_of, drawn_rule, drawn_rules, has_query, query_of}
 use Rattle.query_draw.proofs.LegLemmas.{words_for-words}
 use Rattle.query_draw.proofs.LedLemmas.{IsLed, drawn_rule_led}
 use Rattle.query_draw.proofs.HeadLemmas.{passes_at, heads_occur}
 use Rattle.query_draw.proofs.QueryLemmas.{arity_wanted, rule_is_sized, has_class_is, few_rules, arity_few, rules_some}
 use Rattle.query_draw.proofs.RuleLemmas.{rule_is_begun, drawn_rules_have_skeletons, wide_is_there}
 use Rattle.workload_text.specs.Values.{word_start, word_end, end_from, is_chain_from, is_chain, has_ends, have_same_ends, comes_back, may_be_starred, is_short_word}
-use Rattle.workload_text.specs.Values.{HeadValue, IsConjunct, IsRule, IsQuery, IsWork}
+use Rattle.workload_text.specs.Values.{IsConjunct, IsRule, IsQuery, IsWork}
 use Rattle.workload_text.specs.Head.{head_of}
 use Rattle.workload_text.proofs.HeadLemmas.{IsHead-head_of}
 use Rattle.gm_top.specs.Generation.{CanDraw}
@@ -317,16 +317,3 @@ workload-kept config seed rules can =
       few = omega (arith, long, rules.workload.queries);
       each = mapped (IsQuery (head_of config)) (query_of config seed) n (λ number within. query-kept config rules seed number (can number within));
     }
-
--- a query keeps the rules whichever class stands in the place of its wide class
-pub narrow-kept : (h : HeadValue) (q : QueryValue) → IsQuery h q → IsQuery h (narrow q)
-narrow-kept h q kept = record {
-  labels = kept.labels;
-  some = kept.some;
-  few = kept.few;
-  each = kept.each;
-  arity = kept.arity;
-  class = kept.class;
-  wide = kept.class;
-  format = kept.format;
-}

@@ -1,21 +1,20 @@
 -- The files of queries, one query after another.
-use Rattle.std.proofs.Common.{◌≡◌, ◌∙◌, ℕ, ◌+◌, ◌<◌, List, [], ◌∷◌, ◌++◌, length, take, drop, Option, Some, slice_get, refl, ap, sym, subst, arith}
+use Rattle.std.proofs.Common.{◌≡◌, ◌∙◌, ℕ, ◌+◌, List, [], ◌∷◌, ◌++◌, length, take, drop, Option, Some, slice_get, refl, ap, sym, subst, arith}
 use Rattle.std.proofs.lemmas.List.{take-append-drop, length-take, take_all}
-use Rattle.std.proofs.lemmas.List.FromFn.{get_or-map-range_with_len, length-map-range_with_len}
-use Rattle.std.proofs.lemmas.Option.{slice_get-get_or, slice_get_within}
+use Rattle.std.proofs.lemmas.List.FromFn.{length-map-range_with_len}
+use Rattle.std.proofs.lemmas.Option.{slice_get_within}
 use Rattle.gm_io.specs.FileList.{FileList}
 use Rattle.gm_files.specs.declared.texts.QueryFile.{QueryFile}
 use Rattle.gm_files.specs.declared.texts.QueryFile.TheVariants.{Sparql, Sql}
 use Rattle.gm_config.specs.Config.{ConfigValue}
 use Rattle.query_terms.specs.Values.{QueryValue}
-use Rattle.workload_text.specs.Head.{head_of}
 use Rattle.workload_text.specs.Values.{HeadValue}
-use Rattle.query_draw.specs.Query.{query_of, narrow}
+use Rattle.query_draw.specs.Query.{query_of}
 use Rattle.query_texts.specs.Texts.{text_of}
 use Rattle.workload_text.proofs.HeadLemmas.{take-more}
 use Rattle.gm_top.specs.Workload.{queries_of, workload_of}
 use Rattle.workload_text.specs.Lines.{work_text}
-use Rattle.gm_top.specs.Outputs.{Output, workload, query_file, name_of, pair_of, work_outputs, query_outputs, drawn_outputs, AreFilesOf, MakesFiles, MakesPart, TakesCalls, TakesCallsWithin}
+use Rattle.gm_top.specs.Outputs.{Output, workload, query_file, name_of, pair_of, work_outputs, query_outputs, AreFilesOf, MakesFiles, MakesPart, TakesCalls, TakesCallsWithin}
 use Rattle.gm_top.proofs.OutputLemmas.{MakesFiles-append, MakesPart-append, MakesPart-longer, TakesCalls-append, TakesCallsWithin-append, TakesCallsWithin-longer}
 
 -- the file of a query in a language
@@ -100,41 +99,13 @@ module _ (names : List (List ℕ)) where
       → TakesCalls (query_outputs names 0 queries) before now
   calls-all queries k all before now taken = subst (λ outputs. TakesCalls outputs before now) (all-queries queries k all) taken
 
--- the drawn query with a number
-pub drawn-at : (config : ConfigValue) (seed number : ℕ) → number < config.workload.queries → slice_get (queries_of config seed) number ≡ Some (query_of config seed number)
-drawn-at config seed number within =
-    let f = query_of config seed in
-    let n = config.workload.queries in
-    let long = length-map-range_with_len f 0 n in
-    slice_get-get_or (queries_of config seed) number (f number) (omega (arith, within, long))
-    ∙ ap (λ q. Some q) (get_or-map-range_with_len f 0 n number number (f number) within (omega arith))
-
+-- how many queries are drawn
 pub drawn-count : (config : ConfigValue) (seed : ℕ) → length (queries_of config seed) ≡ config.workload.queries
 drawn-count config seed = length-map-range_with_len (query_of config seed) 0 config.workload.queries
 
 -- what is known of the outputs of a query under a head that was lent is known of those under the head that lends it
 pub under-head : (P : List Output → Type 0) (lent own : HeadValue) (number : ℕ) (q : QueryValue) → lent ≡ own → P (pair_of lent.labels number q) → P (pair_of own.labels number q)
 under-head P lent own number q same p = subst (λ (h : HeadValue). P (pair_of h.labels number q)) same p
-
--- the texts of a query don't rest on its wide class
-narrow-files : (names : List (List ℕ)) (number : ℕ) (q : QueryValue) (files : FileList) → AreFilesOf (pair_of names number (narrow q)) files → AreFilesOf (pair_of names number q) files
-narrow-files names number q [] are = are
-narrow-files names number q (sparql ∷ []) are = are
-narrow-files names number q (sparql ∷ sql ∷ []) are = are
-narrow-files names number q (sparql ∷ sql ∷ file ∷ files) are = are
-
--- so what is known of its files without it is known of its files
-pub without-wide : (P : FileList → Type 0) (names : List (List ℕ)) (number : ℕ) (q : QueryValue)
-    → (files : FileList) × AreFilesOf (pair_of names number (narrow q)) files × P files → (files : FileList) × AreFilesOf (pair_of names number q) files × P files
-without-wide P names number q found = (found.0, narrow-files names number q found.0 found.1, found.2)
-
--- the files of the query that was drawn are those of the drawn query
-pub as-drawn : (P : FileList → Type 0) (config : ConfigValue) (seed number : ℕ) (h : HeadValue) (q : QueryValue) → h ≡ head_of config → q ≡ narrow (query_of config seed number)
-    → (files : FileList) × AreFilesOf (pair_of h.labels number q) files × P files → (files : FileList) × AreFilesOf (drawn_outputs config seed number) files × P files
-as-drawn P config seed number h q head is found =
-    without-wide P (head_of config).labels number (query_of config seed number)
-    (subst (λ (own : QueryValue). (files : FileList) × AreFilesOf (pair_of (head_of config).labels number own) files × P files) is
-    (subst (λ (own : HeadValue). (files : FileList) × AreFilesOf (pair_of own.labels number q) files × P files) head found))
 
 -- the files after that of the graph
 pub later-files : (config : ConfigValue) (seed : ℕ) → (files : FileList) × AreFilesOf (workload config seed ∷ work_outputs (workload_of config seed)) files

@@ -1,8 +1,7 @@
 -- The sample and its summary.
-use Rattle.std.proofs.Common.{◌≡◌, ◌∙◌, ℕ, ◌+◌, ◌^◌, ◌<◌, ◌≤◌, List, [], ◌∷◌, length, map, All, IsSome, refl, ap, sym, arith}
-use Rattle.std.specs.List.{range_with_len}
+use Rattle.std.proofs.Common.{◌≡◌, ◌∙◌, ℕ, ◌+◌, ◌^◌, ◌<◌, ◌≤◌, List, [], ◌∷◌, length, All, IsSome, refl, ap, sym, arith}
 use Rattle.std.proofs.lemmas.List.Elements.{All-weaker}
-use Rattle.std.proofs.lemmas.List.FromFn.{length-map-range_with_len, map-range_with_len_more}
+use Rattle.std.proofs.lemmas.List.FromFn.{length-map-range_with_len}
 use Rattle.gm_io.specs.FileList.{FileList}
 use Rattle.graph_text.specs.declared.graphs.Triple.{Triple}
 use Rattle.gm_config.specs.Config.{ConfigValue, IsConfig}
@@ -23,6 +22,7 @@ use Rattle.gm_top.specs.Generation.{CanDraw, IsAcceptedFor}
 use Rattle.gm_top.specs.Workload.{queries_of, workload_of}
 use Rattle.gm_top.specs.Outputs.{summary, name_of, IsTextOf, AreFilesOf}
 use Rattle.gm_top.proofs.KeptLemmas.{workload-kept}
+use Rattle.gm_top.proofs.WorkloadLemmas.{first_queries, first_queries-more}
 use Rattle.gm_top.proofs.GraphLemmas.{graph_text-some}
 
 -- the sample and its seed are accepted
@@ -33,21 +33,17 @@ sample-accepted k some few =
 -- ---- the queries
 
 module _ (config : ConfigValue) (seed : ℕ) where
-  -- the first so many drawn queries
-  abbrev pub first_queries : ℕ → List QueryValue
-  first_queries number = map (query_of config seed) (range_with_len 0 number)
-
   -- one more is counted
-  pub drawn-counted : (n number : ℕ) → drawn_summary config seed n (first_queries (number + 1))
-      ≡ with_class_of (query_of config seed number).class (drawn_summary config seed n (first_queries number))
+  pub drawn-counted : (n number : ℕ) → drawn_summary config seed n (first_queries config seed (number + 1))
+      ≡ with_class_of (query_of config seed number).class (drawn_summary config seed n (first_queries config seed number))
   drawn-counted n number =
-      ap (drawn_summary config seed n) (map-range_with_len_more (query_of config seed) 0 number number (omega arith))
-      ∙ query-counted (smaller_totals config seed n) (first_queries number) (query_of config seed number)
+      ap (drawn_summary config seed n) (first_queries-more config seed number)
+      ∙ query-counted (smaller_totals config seed n) (first_queries config seed number) (query_of config seed number)
 
   -- there is room for it
-  pub drawn-room : (n number : ℕ) → number < 2 ^ 32 → HasRoom (drawn_summary config seed n (first_queries number))
+  pub drawn-room : (n number : ℕ) → number < 2 ^ 32 → HasRoom (drawn_summary config seed n (first_queries config seed number))
   drawn-room n number few =
-      HasRoom-summary_with (smaller_totals config seed n) (first_queries number) (omega (arith, few, length-map-range_with_len (query_of config seed) 0 number))
+      HasRoom-summary_with (smaller_totals config seed n) (first_queries config seed number) (omega (arith, few, length-map-range_with_len (query_of config seed) 0 number))
 
   -- in format 1 each drawn query has a class
   each-class : IsConfig config → CanDraw config seed → config.workload.format ≡ 1 → All (λ (q : QueryValue). IsSome q.class) (queries_of config seed)

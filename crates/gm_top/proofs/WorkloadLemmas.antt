@@ -40,14 +40,22 @@ queries_lines-append n (q ∷ queries) more =
     ∙ ap (λ m. queries_lines n (q ∷ queries) ++ queries_lines m more) same
 
 module _ (config : ConfigValue) (seed : ℕ) where
+  -- the first so many drawn queries
+  abbrev pub first_queries : ℕ → List QueryValue
+  first_queries number = map (query_of config seed) (range_with_len 0 number)
+
+  -- and one more
+  pub first_queries-more : (k : ℕ) → first_queries (k + 1) ≡ first_queries k ++ query_of config seed k ∷ []
+  first_queries-more k = map-range_with_len_more (query_of config seed) 0 k k (omega arith)
+
   -- the lines of one more query
   pub queries_text-more : (k : ℕ) → queries_text config seed (k + 1) ≡ queries_text config seed k ++ lines_text (query_lines k (query_of config seed k))
   queries_text-more k =
-      let before = map (query_of config seed) (range_with_len 0 k) in
+      let before = first_queries k in
       let q = query_of config seed k in
       let long = length-map-range_with_len (query_of config seed) 0 k in
       let next : 0 + length before ≡ k = omega (arith, long) in
-      ap (λ queries. lines_text (queries_lines 0 queries)) (map-range_with_len_more (query_of config seed) 0 k k (omega arith))
+      ap (λ queries. lines_text (queries_lines 0 queries)) (first_queries-more k)
       ∙ ap lines_text (queries_lines-append 0 before (q ∷ []))
       ∙ lines_text-append (queries_lines 0 before) (queries_lines (0 + length before) (q ∷ []))
       ∙ ap (λ n. lines_text (queries_lines 0 before) ++ lines_text (query_lines n q ++ [])) next
@@ -97,18 +105,25 @@ module _ (config : ConfigValue) (seed : ℕ) where
     none = λ other. (rw other refl, rw other refl);
   }
 
+  -- the number of a query of the workload is one of those that are asked for
+  drawn-within : (number : ℕ) (q : QueryValue) → slice_get (queries_of config seed) number ≡ Some q → number < config.workload.queries
+  drawn-within number q found =
+      let inside = slice_get_within (queries_of config seed) number q found in
+      let long = length-map-range_with_len (query_of config seed) 0 config.workload.queries in
+      omega (arith, inside, long)
+
+  -- a query of the workload is the drawn one with its number
+  pub drawn-at : (number : ℕ) (q : QueryValue) → slice_get (queries_of config seed) number ≡ Some q → q ≡ query_of config seed number
+  drawn-at number q found =
+      let f = query_of config seed in
+      let within = drawn-within number q found in
+      sym (get_or_from_slice_get (queries_of config seed) number q q found) ∙ get_or-map-range_with_len f 0 config.workload.queries number number q within (omega arith)
+
   -- what is true of each query that can be drawn is true of each query of the workload
   drawn-of : (P : ℕ → QueryValue → Type 0) → ((number : ℕ) → has_query config seed number ≡ true → P number (query_of config seed number)) → CanDraw config seed
       → (number : ℕ) (q : QueryValue) → slice_get (queries_of config seed) number ≡ Some q → P number q
   drawn-of P each can number q found =
-      let f = query_of config seed in
-      let n = config.workload.queries in
-      let inside = slice_get_within (queries_of config seed) number q found in
-      let long = length-map-range_with_len f 0 n in
-      let within : number < n = omega (arith, inside, long) in
-      let is : f number ≡ q =
-      sym (get_or-map-range_with_len f 0 n number number q within (omega arith)) ∙ get_or_from_slice_get (queries_of config seed) number q q found in
-      subst (P number) is (each number (can number within))
+      subst (P number) (sym (drawn-at number q found)) (each number (can number (drawn-within number q found)))
 
   pub workload-classes : IsConfig config → CanDraw config seed → HaveClasses config seed (workload_of config seed)
   workload-classes rules can = drawn-of (λ number q. HasClasses config seed number (schema_of config) q) (drawn-classes rules) can

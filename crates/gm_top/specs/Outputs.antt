@@ -31,8 +31,6 @@ use Rattle.query_texts.specs.Texts.{text_of, MeansQuery}
 use Rattle.gm_top.specs.declared.work.Work.{Work}
 use Rattle.gm_top.specs.declared.work.Work.TheVariants.{Queries, Files, Sampled}
 use Rattle.workload_text.specs.Lines as lines
-use Rattle.query_draw.specs.Query.{query_of}
-use Rattle.workload_text.specs.Head.{head_of}
 use Rattle.workload_text.specs.Values.{WorkValue, IsWork}
 use Rattle.gm_top.specs.Generation.{GenerationValue, IsAcceptedFor}
 use Rattle.summary_text.specs.Summary.{summary_text_of, class_total}
@@ -55,10 +53,6 @@ pair_of names number q = query_file Sparql names number q ∷ query_file Sql nam
 abbrev pub query_outputs : List (List ℕ) → ℕ → List QueryValue → List Output
 query_outputs names number [] = []
 query_outputs names number (q ∷ queries) = pair_of names number q ++ query_outputs names (number + 1) queries
-
--- the drawn query with a number
-abbrev pub drawn_outputs : ConfigValue → (seed number : ℕ) → List Output
-drawn_outputs config seed number = pair_of (head_of config).labels number (query_of config seed number)
 
 -- the queries of a workload, under the names of its labels
 abbrev pub work_outputs : WorkValue → List Output

@@ -1,6 +1,6 @@
 //! `generate`: from a configuration to its files.
 
-ghost use Rattle.std.specs.Prelude.{◌≡◌, ◌≢◌, false, Err};
+ghost use Rattle.std.specs.Prelude.{◌≡◌, ◌≢◌, [], false, Err};
 ghost use Rattle.std.specs.Prelude.{IfOk, IfErr, OnOk, OnErr, IsErrOf, IsTrue};
 ghost use Rattle.gm_io.specs.Count.{Rose};
 ghost use Rattle.gm_top.specs.declared.commands.Command.TheVariants.{Generate};
@@ -9,10 +9,12 @@ ghost use Rattle.gm_top.specs.Generation.{IsAcceptedFor};
 ghost use Rattle.gm_top.specs.Outcome.{is_of_deciding, is_of_writing};
 ghost use Rattle.gm_top.specs.Decision.{IsDecision, IsRefusalOf};
 ghost use Rattle.gm_top.specs.Outputs.{outputs_of, MakesFiles, MakesPart, TakesCalls, TakesCallsWithin};
+ghost use Rattle.gm_top.specs.Workload.{queries_of};
 
 use crate::generation::Generation;
 use crate::graph_file::write_graph;
 use crate::outcomes::Outcome;
+use crate::outlines::Outlines;
 use crate::query_files::write_queries;
 use crate::work::Work;
 use crate::workload_file::write_workload;
@@ -52,15 +54,18 @@ fn refusal_of(alloc: Global, generation: &Generation) -> Result<Option<Outcome>,
     }
 }
 
-/// Writes the files of a configuration.
+/// Writes the files of a configuration, and keeps its queries.
 pub(crate) fn written<F: Folder>(
     alloc: Global,
     generation: &Generation,
+    outlines: &mut Outlines<'_>,
     folder: &mut F,
 ) -> Result<(), Outcome>
+    requires none { outlines.old ≡ [] }
     requires accepted { IsAcceptedFor generation.now.config generation.now.seed }
     requires finished { F.unfinished folder.old ≡ false }
     ensures files { OnOk result (MakesFiles (outputs_of (Files generation.now)) (F.files folder.old) (F.files folder.new)) }
+    ensures kept { OnOk result (outlines.new ≡ queries_of generation.now.config generation.now.seed) }
     ensures finished { OnOk result (F.unfinished folder.new ≡ false) }
     ensures part { OnErr result (MakesPart (outputs_of (Files generation.now)) (F.files folder.old) (F.files folder.new)) }
     ensures calls { OnOk result (TakesCalls (outputs_of (Files generation.now)) (F.calls folder.old) (F.calls folder.new)) }
@@ -78,7 +83,7 @@ pub(crate) fn written<F: Folder>(
         &mut pieces,
         folder,
     )?;
-    write_workload(alloc, generation, &mut pieces, folder)?;
-    write_queries(alloc, generation, folder)?;
+    write_workload(alloc, generation, outlines, &mut pieces, folder)?;
+    write_queries(alloc, generation, outlines, folder)?;
     Ok(())
 }

@@ -2,14 +2,14 @@
 
 ghost use Rattle.std.specs.Prelude.{◌≡◌, ◌<◌, true, IfOk, IfErr};
 ghost use Rattle.query_terms.specs.View.{query_value};
-ghost use Rattle.query_draw.specs.Query.{has_query, narrow, query_of};
+ghost use Rattle.query_draw.specs.Query.{has_query, query_of};
 ghost use Rattle.schema_graph.specs.Configured.{schema_of};
 ghost use Rattle.query_draw.specs.Query.{reach_of};
 
 use crate::outcomes::Outcome;
 use gm_config::Config;
 use gm_text::Arena;
-use query_draw::{draw_narrow, draw_query};
+use query_draw::draw_query;
 use query_terms::Query;
 use schema_graph::Schema;
 use sel_graph::Reach;
@@ -96,30 +96,6 @@ impl Generation {
         ensures stops { IfErr result (λ outcome. outcome ≡ Outcome.NoMemory) }
     {
         let query = draw_query(
-            alloc,
-            self.config(),
-            self.schema(),
-            self.reach(),
-            self.seed(),
-            number,
-            arena,
-        )?;
-        Ok(query)
-    }
-
-    /// The drawn query with a number, with its class in the place of its wide class. Only memory can be wanting.
-    pub(crate) fn narrow_query<'a>(
-        &self,
-        alloc: Global,
-        number: u32,
-        arena: &'a Arena,
-    ) -> Result<Query<'a>, Outcome>
-        requires within { number < self.now.config.workload.queries }
-        requires drawable { has_query self.now.config self.now.seed number ≡ true }
-        ensures query { IfOk result (λ query. query_value query ≡ narrow (query_of self.now.config self.now.seed number)) }
-        ensures stops { IfErr result (λ outcome. outcome ≡ Outcome.NoMemory) }
-    {
-        let query = draw_narrow(
             alloc,
             self.config(),
             self.schema(),

@@ -11,6 +11,7 @@ mod generation;
 mod graph_file;
 pub mod laws;
 mod outcomes;
+mod outlines;
 mod putting;
 mod query_files;
 mod sampling;

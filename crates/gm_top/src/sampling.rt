@@ -1,16 +1,15 @@
 //! `sample`: the files of the sample, and a summary of them.
 
-ghost use Rattle.std.specs.Prelude.{◌≡◌, ◌≢◌, ◌<◌, ◌≤◌, ◌^◌, [], ◌∷◌, true, false, length, Err, IfOk, IfErr, OnOk, OnErr, IsErrOf, IsTrue};
+ghost use Rattle.std.specs.Prelude.{◌≡◌, ◌≢◌, ◌≤◌, ◌^◌, [], ◌∷◌, false, length, Err, IfOk, IfErr, OnOk, OnErr, IsErrOf, IsTrue};
 ghost use Rattle.gm_io.specs.Count.{Rose};
 ghost use Rattle.gm_config.specs.Config.{IsConfig};
 ghost use Rattle.edge_match.specs.Limit.{IsWithinLimit};
 ghost use Rattle.summary_text.specs.Summary.{HasRoom, summary_text_of};
 ghost use Rattle.summary_text.specs.Counts.{drawn_summary};
 ghost use Rattle.summary_text.specs.Laws.{with_class_of};
-ghost use Rattle.query_draw.specs.Query.{has_query, query_of};
 ghost use Rattle.gm_top.specs.declared.commands.Command.TheVariants.{Sample};
 ghost use Rattle.gm_top.specs.declared.work.Work.TheVariants.{Sampled};
-ghost use Rattle.gm_top.specs.Generation.{CanDraw, IsAcceptedFor};
+ghost use Rattle.gm_top.specs.Generation.{IsAcceptedFor};
 ghost use Rattle.gm_top.specs.Outcome.{is_of_writing};
 ghost use Rattle.gm_top.specs.Decision.{IsDecision};
 ghost use Rattle.gm_top.specs.Outputs.{outputs_of, summary, MakesFiles, MakesPart, TakesCalls, TakesCallsWithin};
@@ -19,13 +18,13 @@ ghost use Rattle.gm_top.specs.Workload.{queries_of};
 use crate::generating;
 use crate::generation::Generation;
 use crate::outcomes::Outcome;
+use crate::outlines::Outlines;
 use crate::work::Work;
-use crate::workload_file::emptied;
 use edge_match::smaller_total;
 use gm_config::{Config, sample_config};
 use gm_files::put_file;
 use gm_io::Folder;
-use gm_text::Arena;
+use sel_algebra::Class;
 use std::alloc::Global;
 use summary_text::{Summary, write_summary};
 
@@ -45,8 +44,10 @@ pub(crate) fn decided<'a>(alloc: Global, k: u32) -> Result<Work<'a>, Outcome>
 pub(crate) fn written<F: Folder>(
     alloc: Global,
     generation: &Generation,
+    outlines: &mut Outlines<'_>,
     folder: &mut F,
 ) -> Result<(), Outcome>
+    requires none { outlines.old ≡ [] }
     requires accepted { IsAcceptedFor generation.now.config generation.now.seed }
     requires finished { F.unfinished folder.old ≡ false }
     ensures files { OnOk result (MakesFiles (outputs_of (Sampled generation.now)) (F.files folder.old) (F.files folder.new)) }
@@ -59,8 +60,8 @@ pub(crate) fn written<F: Folder>(
     ensures fault { IsErrOf result Outcome.WriteFault → Rose (F.faults folder.old) (F.faults folder.new) }
     ensures faults { ¬ IsErrOf result Outcome.WriteFault → F.faults folder.new ≡ F.faults folder.old }
 {
-    generating::written(alloc, generation, folder)?;
-    put_summary(alloc, generation, folder)?;
+    generating::written(alloc, generation, outlines, folder)?;
+    put_summary(alloc, generation, outlines, folder)?;
     Ok(())
 }
 
@@ -68,8 +69,10 @@ pub(crate) fn written<F: Folder>(
 fn put_summary<F: Folder>(
     alloc: Global,
     generation: &Generation,
+    outlines: &Outlines<'_>,
     folder: &mut F,
 ) -> Result<(), Outcome>
+    requires kept { outlines.now ≡ queries_of generation.now.config generation.now.seed }
     requires accepted { IsAcceptedFor generation.now.config generation.now.seed }
     requires finished { F.unfinished folder.old ≡ false }
     ensures files { OnOk result (MakesFiles (summary generation.now.config generation.now.seed ∷ [])
@@ -85,26 +88,36 @@ fn put_summary<F: Folder>(
     ensures fault { IsErrOf result Outcome.WriteFault → Rose (F.faults folder.old) (F.faults folder.new) }
     ensures faults { ¬ IsErrOf result Outcome.WriteFault → F.faults folder.new ≡ F.faults folder.old }
 {
-    let text = summary_text(alloc, generation)?;
+    let text = summary_text(alloc, generation, outlines)?;
     put_file(folder, "summary.txt", &text)?;
     Ok(())
 }
 
 /// The text of the summary.
-fn summary_text(alloc: Global, generation: &Generation) -> Result<Vec<u8>, Outcome>
+fn summary_text(
+    alloc: Global,
+    generation: &Generation,
+    outlines: &Outlines<'_>,
+) -> Result<Vec<u8>, Outcome>
+    requires kept { outlines.now ≡ queries_of generation.now.config generation.now.seed }
     requires accepted { IsAcceptedFor generation.now.config generation.now.seed }
     ensures text { IfOk result (λ text. text.items ≡ summary_text_of (drawn_summary generation.now.config generation.now.seed
         (length generation.now.config.constraints) (queries_of generation.now.config generation.now.seed))) }
     ensures stops { IfErr result (λ outcome. outcome ≡ Outcome.NoMemory) }
 {
-    let counted = counted(alloc, generation)?;
+    let counted = counted(alloc, generation, outlines)?;
     let mut text = Vec::new(alloc);
     write_summary(alloc, &mut text, &counted)?;
     Ok(text)
 }
 
 /// Counts the edges of each constraint, and the queries of each class.
-fn counted(alloc: Global, generation: &Generation) -> Result<Summary, Outcome>
+fn counted(
+    alloc: Global,
+    generation: &Generation,
+    outlines: &Outlines<'_>,
+) -> Result<Summary, Outcome>
+    requires kept { outlines.now ≡ queries_of generation.now.config generation.now.seed }
     requires accepted { IsAcceptedFor generation.now.config generation.now.seed }
     ensures counted { IfOk result (λ counted. counted ≡ drawn_summary generation.now.config generation.now.seed
         (length generation.now.config.constraints) (queries_of generation.now.config generation.now.seed)) }
@@ -112,7 +125,7 @@ fn counted(alloc: Global, generation: &Generation) -> Result<Summary, Outcome>
 {
     let mut counted = Summary::new(alloc);
     count_constraints(alloc, generation.config(), generation.seed(), &mut counted)?;
-    count_queries(alloc, generation, &mut counted)?;
+    count_queries(generation, outlines, &mut counted);
     Ok(counted)
 }
 
@@ -136,45 +149,25 @@ fn count_constraints(
 }
 
 /// Counts the drawn queries of each class.
-fn count_queries(
-    alloc: Global,
-    generation: &Generation,
-    counted: &mut Summary,
-) -> Result<(), Outcome>
+fn count_queries(generation: &Generation, outlines: &Outlines<'_>, counted: &mut Summary)
     requires rules { IsConfig generation.now.config }
-    requires drawable { CanDraw generation.now.config generation.now.seed }
+    requires kept { outlines.now ≡ queries_of generation.now.config generation.now.seed }
     requires constraints { counted.old ≡ drawn_summary generation.now.config generation.now.seed
         (length generation.now.config.constraints) [] }
-    ensures counted { OnOk result (counted.new ≡ drawn_summary generation.now.config generation.now.seed
-        (length generation.now.config.constraints) (queries_of generation.now.config generation.now.seed)) }
-    ensures stops { IfErr result (λ outcome. outcome ≡ Outcome.NoMemory) }
+    ensures { counted.new ≡ drawn_summary generation.now.config generation.now.seed
+        (length generation.now.config.constraints) (queries_of generation.now.config generation.now.seed) }
 {
-    let mut arena = Arena::new(alloc);
     for number in 0..generation.query_count() {
-        count_query(alloc, generation, number, &arena, counted)?;
-        arena = emptied(alloc, arena);
+        count_class(outlines.at(number).class(), counted);
     }
-    Ok(())
 }
 
-/// Counts the drawn query with a number, for its class.
-fn count_query(
-    alloc: Global,
-    generation: &Generation,
-    number: u32,
-    arena: &Arena,
-    counted: &mut Summary,
-) -> Result<(), Outcome>
-    requires within { number < generation.now.config.workload.queries }
-    requires drawable { has_query generation.now.config generation.now.seed number ≡ true }
-    requires room { HasRoom counted.old }
-    ensures counted { OnOk result
-        (counted.new ≡ with_class_of (query_of generation.now.config generation.now.seed number).class counted.old) }
-    ensures stops { IfErr result (λ outcome. outcome ≡ Outcome.NoMemory) }
+/// Counts a query, for its class.
+fn count_class(class: Option<Class>, counted: &mut Summary)
+    requires { HasRoom counted.old }
+    ensures { counted.new ≡ with_class_of class counted.old }
 {
-    let query = generation.query(alloc, number, arena)?;
-    if let Some(class) = query.class {
+    if let Some(class) = class {
         counted.add_class(class);
     }
-    Ok(())
 }

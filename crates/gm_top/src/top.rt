@@ -13,6 +13,7 @@ ghost use Rattle.gm_top.specs.Run.{CallsForFiles, CallsForPart, CallsForPartIfAn
 
 use crate::commands::{Command, command_of};
 use crate::outcomes::Outcome;
+use crate::outlines::Outlines;
 use crate::work::Work;
 use crate::{generating, sampling, translating};
 use gm_io::{Folder, Source, read_all};
@@ -91,7 +92,7 @@ pub fn run<S: Source, F: Folder>(
         Ok(work) => work,
         Err(outcome) => return outcome,
     };
-    match written(alloc, &work, folder) {
+    match written(alloc, &work, &arena, folder) {
         Ok(()) => Outcome::Done,
         Err(outcome) => outcome,
     }
@@ -125,8 +126,13 @@ fn decided<'a, S: Source>(
     }
 }
 
-/// Writes the files of a work.
-fn written<F: Folder>(alloc: Global, work: &Work<'_>, folder: &mut F) -> Result<(), Outcome>
+/// Writes the files of a work. Queries that are drawn are kept in the arena.
+fn written<F: Folder>(
+    alloc: Global,
+    work: &Work<'_>,
+    arena: &Arena,
+    folder: &mut F,
+) -> Result<(), Outcome>
     requires accepted { IsAccepted work.now }
     requires finished { F.unfinished folder.old ≡ false }
     ensures files { OnOk result (MakesFiles (outputs_of work.now) (F.files folder.old) (F.files folder.new)) }
@@ -138,9 +144,10 @@ fn written<F: Folder>(alloc: Global, work: &Work<'_>, folder: &mut F) -> Result<
     ensures fault { IsErrOf result Outcome.WriteFault → Rose (F.faults folder.old) (F.faults folder.new) }
     ensures faults { ¬ IsErrOf result Outcome.WriteFault → F.faults folder.new ≡ F.faults folder.old }
 {
+    let mut outlines = Outlines::new(alloc, arena);
     match work {
         Work::Queries(work) => translating::written(alloc, work, folder),
-        Work::Files(generation) => generating::written(alloc, generation, folder),
-        Work::Sampled(generation) => sampling::written(alloc, generation, folder),
+        Work::Files(generation) => generating::written(alloc, generation, &mut outlines, folder),
+        Work::Sampled(generation) => sampling::written(alloc, generation, &mut outlines, folder),
     }
 }

@@ -24,4 +24,4 @@ mod words;
 
 pub use errors::DrawError;
 pub use missing::{NoSuchQuery, first_missing};
-pub use query::{draw_narrow, draw_query};
+pub use query::draw_query;

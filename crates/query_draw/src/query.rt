@@ -51,9 +51,8 @@ pub fn draw_query<'a>(
     Ok(drawn)
 }
 
-/// The same query with its class in the place of its wide class, which takes a part of the time: for texts that don't
-/// name the wide class. It is refused exactly where [`draw_query`] is.
-pub fn draw_narrow<'a>(
+/// The same query with its class in the place of its wide class.
+fn draw_narrow<'a>(
     alloc: Global,
     config: &Config,
     schema: &Schema,

@@ -1,6 +1,6 @@
 use Rattle.std.proofs.Common.{◌≡◌, length}
 use Rattle.summary_text.specs.Counts.{drawn_summary}
-use Rattle.gm_top.proofs.SampleLemmas.{first_queries}
+use Rattle.gm_top.proofs.WorkloadLemmas.{first_queries}
 use Rattle.gm_top.proofs.sampling.count_queries.Given as goal
 
 -- the queries so far were counted
