@@ -27,7 +27,7 @@ three a b c r = append_assoc a (b ++ c) r ∙ ap (λ (bs : List ℕ). a ++ bs) (
 four : (a b c d r : List ℕ) → (a ++ (b ++ (c ++ d))) ++ r ≡ a ++ (b ++ (c ++ (d ++ r)))
 four a b c d r = append_assoc a (b ++ (c ++ d)) r ∙ ap (λ (bs : List ℕ). a ++ bs) (three b c d r)
 
-five : (a b c d e r : List ℕ) → (a ++ (b ++ (c ++ (d ++ e)))) ++ r ≡ a ++ (b ++ (c ++ (d ++ (e ++ r))))
+pub five : (a b c d e r : List ℕ) → (a ++ (b ++ (c ++ (d ++ e)))) ++ r ≡ a ++ (b ++ (c ++ (d ++ (e ++ r))))
 five a b c d e r = append_assoc a (b ++ (c ++ (d ++ e))) r ∙ ap (λ (bs : List ℕ). a ++ bs) (four b c d e r)
 
 module _ {A B : Type 0} (write : A → List ℕ) (view : A → B) (pieces : B → Pieces → Pieces)

@@ -1,7 +1,7 @@
 -- How a text grows, item by item.
 use Rattle.std.proofs.Common.{◌≡◌, ℕ, zero, suc, ◌+◌, ◌<◌, Bool, true, false, if◌then◌else◌, Option, Some, None, List, [], ◌∷◌, ◌++◌, length, take, drop, map, codes, refl, sym, ap, subst}
 use Rattle.std.proofs.Common.{◌∙◌, true≢false, arith}
-use Rattle.std.specs.Prelude.{◌==◌, slice_get, is_some, unwrap_or, Result, OnOk}
+use Rattle.std.specs.Prelude.{◌==◌, slice_get, is_some, unwrap_or}
 use Rattle.std.specs.List.{join_by, flat_map, list_all, take-map}
 use Rattle.std.specs.Option.{option_or, option_map}
 use Rattle.std.proofs.lemmas.Bool.Decides.{nat_tests}
@@ -46,28 +46,6 @@ take_at (y ∷ xs) zero x at = some_only y x at
 take_at (y ∷ xs) (suc i) x at = ap (λ (n : ℕ). take n (y ∷ xs)) (sym (later i)) ∙ ap (λ zs. y ∷ zs) (take_at xs i x at)
 
 -- ---- lines
-
--- two numbers between three texts, and a bracket behind them
-two_closed : (before one between other after : List ℕ)
-    → before ++ (one ++ (between ++ (other ++ (after ++ codes ")")))) ≡ (before ++ (one ++ (between ++ (other ++ after)))) ++ codes ")"
-two_closed before one between other after =
-    sym
-    (append_assoc before (one ++ (between ++ (other ++ after))) (codes ")")
-    ∙ ap (λ (bs : List ℕ). before ++ bs)
-    (append_assoc one (between ++ (other ++ after)) (codes ")")
-    ∙ ap (λ (bs : List ℕ). one ++ bs)
-    (append_assoc between (other ++ after) (codes ")") ∙ ap (λ (bs : List ℕ). between ++ bs) (append_assoc other after (codes ")")))))
-
--- they are written, where the last text ends with the bracket
-pub two_written : {T E : Type 0} (r : Result T E) (new old before one between other after : List ℕ)
-    → OnOk r (new ≡ old ++ (before ++ (one ++ (between ++ (other ++ (after ++ codes ")"))))))
-    → OnOk r (new ≡ old ++ ((before ++ (one ++ (between ++ (other ++ after)))) ++ codes ")"))
-two_written r new old before one between other after = subst (λ bs. OnOk r (new ≡ old ++ bs)) (two_closed before one between other after)
-
--- one part, and then another
-pub both_written : {T E : Type 0} (r : Result T E) (new out old one other : List ℕ) → out ≡ old ++ one → OnOk r (new ≡ out ++ other)
-    → OnOk r (new ≡ old ++ (one ++ other))
-both_written r new out old one other is = subst (λ bs. OnOk r (new ≡ bs)) (ap (λ (bs : List ℕ). bs ++ other) is ∙ append_assoc old one other)
 
 pub lines_start : (terms : List Term) (old out : List ℕ) → out ≡ old ++ nodes_line → out ++ lines_left 0 terms ≡ old ++ tables_text terms
 lines_start terms old out is = rw is (append_assoc old nodes_line (lines_left 0 terms))

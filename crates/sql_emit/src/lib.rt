@@ -3,6 +3,7 @@
 
 mod columns;
 pub mod laws;
+mod line;
 mod links;
 mod names;
 mod query;

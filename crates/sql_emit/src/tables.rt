@@ -1,14 +1,14 @@
 //! The tables of terms.
 
-ghost use Rattle.std.specs.Prelude.{◌≡◌, ◌++◌, ◌<◌, ◌^◌, true, length, slice_get, Some, codes, decimal, OnOk};
+ghost use Rattle.std.specs.Prelude.{◌≡◌, ◌++◌, ◌+◌, ◌<◌, ◌≤◌, ◌^◌, true, length, slice_get, Some, codes, decimal, OnOk};
 ghost use Rattle.std.specs.List.{list_all};
 ghost use Rattle.query_terms.specs.Store.{IsStore};
 ghost use Rattle.sql_emit.specs.Text.{steps_text, body_text, term_line, tables_text};
 ghost use Rattle.sql_emit.specs.Laws.{label_fits};
 
-use gm_text::write_decimal;
+use crate::line::Line;
 use query_terms::{Term, TermId, TermStore};
-use std::alloc::{AllocError, Global};
+use std::alloc::AllocError;
 
 const NODES: &[u8] = b"nodes(v) AS (SELECT e.src FROM edge AS e UNION SELECT e.trg FROM edge AS e)";
 
@@ -53,86 +53,71 @@ fn steps(back: bool) -> &'static [u8]
     }
 }
 
-/// Appends a text, and then a number.
-fn put_number(
-    alloc: Global,
-    out: &mut Vec<u8>,
-    before: &[u8],
-    number: u32,
-) -> Result<(), AllocError>
-    ensures { OnOk result (out.new.items ≡ out.old.items ++ (before.now ++ decimal number)) }
+/// Makes the line a number between two texts.
+#[inline(always)]
+fn put_one(line: &mut Line, before: &[u8], number: u32, after: &[u8])
+    requires { length before.now + length after.now ≤ 130 }
+    ensures put { line.new ≡ before.now ++ (decimal number ++ after.now) }
+    ensures few { length line.new ≤ length before.now + length after.now + 10 }
 {
-    out.extend_from_slice(before)?;
-    write_decimal(alloc, out, u64::from(number))
+    line.end_with(after);
+    line.put_number(number);
+    line.put(before);
 }
 
-/// Appends a number between two texts.
-fn put_one(
-    alloc: Global,
-    out: &mut Vec<u8>,
-    before: &[u8],
-    number: u32,
-    after: &[u8],
-) -> Result<(), AllocError>
-    ensures { OnOk result (out.new.items ≡ out.old.items ++ (before.now ++ (decimal number ++ after.now))) }
+/// Makes the line the numbers of two terms between three texts.
+#[inline(always)]
+fn put_two(line: &mut Line, before: &[u8], one: TermId, between: &[u8], other: TermId, after: &[u8])
+    requires { length before.now + length between.now + length after.now ≤ 120 }
+    ensures put { line.new ≡ before.now ++ (decimal one ++ (between.now ++ (decimal other ++ after.now))) }
+    ensures few { length line.new ≤ length before.now + length between.now + length after.now + 20 }
 {
-    put_number(alloc, out, before, number)?;
-    out.extend_from_slice(after)
+    line.end_with(after);
+    line.put_number(other.number());
+    line.put(between);
+    line.put_number(one.number());
+    line.put(before);
 }
 
-/// Appends the numbers of two terms between three texts.
-fn put_two(
-    alloc: Global,
-    out: &mut Vec<u8>,
-    before: &[u8],
-    one: TermId,
-    between: &[u8],
-    other: TermId,
-    after: &[u8],
-) -> Result<(), AllocError>
-    ensures { OnOk result (out.new.items ≡ out.old.items ++ (before.now ++ (decimal one ++ (between.now ++ (decimal other ++ after.now))))) }
-{
-    put_number(alloc, out, before, one.number())?;
-    put_one(alloc, out, between, other.number(), after)
-}
-
-/// Appends the columns of the table of a term with a number, and its selects.
-fn put_table(alloc: Global, out: &mut Vec<u8>, id: TermId, term: Term) -> Result<(), AllocError>
-    ensures { OnOk result (out.new.items ≡ out.old.items ++ (codes "(src, trg) AS (" ++ (body_text id term ++ codes ")"))) }
+/// Makes the line the columns of the table of a term with a number, and its selects.
+#[inline(always)]
+fn put_table(line: &mut Line, id: TermId, term: Term)
+    ensures put { line.new ≡ codes "(src, trg) AS (" ++ (body_text id term ++ codes ")") }
+    ensures few { length line.new ≤ 140 }
 {
     match term {
-        Term::Step { label, back } => put_one(alloc, out, steps(back), u32::from(label), STEP_END),
-        Term::Seq(one, other) => put_two(alloc, out, SEQ, one, SEQ_AND, other, SEQ_END),
-        Term::Alt(one, other) => put_two(alloc, out, ALT, one, ALT_OR, other, ALT_END),
-        Term::Star(child) => put_two(alloc, out, STAR, id, STAR_AND, child, STAR_END),
-        Term::Opt(child) => put_one(alloc, out, OPT, child.number(), OPT_END),
+        Term::Step { label, back } => put_one(line, steps(back), u32::from(label), STEP_END),
+        Term::Seq(one, other) => put_two(line, SEQ, one, SEQ_AND, other, SEQ_END),
+        Term::Alt(one, other) => put_two(line, ALT, one, ALT_OR, other, ALT_END),
+        Term::Star(child) => put_two(line, STAR, id, STAR_AND, child, STAR_END),
+        Term::Opt(child) => put_one(line, OPT, child.number(), OPT_END),
     }
 }
 
 /// Appends the end of the line before, and the line of the term with a number.
-fn put_line(alloc: Global, out: &mut Vec<u8>, id: TermId, term: Term) -> Result<(), AllocError>
+#[inline(always)]
+fn put_line(out: &mut Vec<u8>, line: &mut Line, id: TermId, term: Term) -> Result<(), AllocError>
     ensures text { OnOk result (out.new.items ≡ out.old.items ++ (codes ",\n" ++ term_line (term, id))) }
     ensures label { label_fits term ≡ true }
 {
-    put_number(alloc, out, LINE, id.number())?;
-    put_table(alloc, out, id, term)
+    put_table(line, id, term);
+    line.put_number(id.number());
+    line.put(LINE);
+    out.extend_from_slice(line.as_slice())
 }
 
 /// Appends the lines of the nodes and of the terms.
-pub(crate) fn put_tables(
-    alloc: Global,
-    out: &mut Vec<u8>,
-    terms: &TermStore<'_>,
-) -> Result<(), AllocError>
+pub(crate) fn put_tables(out: &mut Vec<u8>, terms: &TermStore<'_>) -> Result<(), AllocError>
     ensures text { OnOk result (out.new.items ≡ out.old.items ++ tables_text terms.now) }
     ensures labels { OnOk result (list_all label_fits terms.now ≡ true) }
     ensures store { OnOk result (IsStore terms.now) }
     ensures few { OnOk result (length terms.now < 2 ^ 64) }
 {
     out.extend_from_slice(NODES)?;
+    let mut line = Line::new();
     for n in 0..terms.len() {
         let id = terms.id(n);
-        put_line(alloc, out, id, terms.get(id))?;
+        put_line(out, &mut line, id, terms.get(id))?;
     }
     Ok(())
 }

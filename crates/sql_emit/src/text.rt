@@ -33,7 +33,7 @@ pub fn links_text(
     let room = terms.len() as usize * LINE_ROOM + REST_ROOM;
     let mut out = Vec::with_capacity(alloc, room)?;
     out.extend_from_slice(b"WITH RECURSIVE\n")?;
-    put_tables(alloc, &mut out, terms)?;
+    put_tables(&mut out, terms)?;
     out.extend_from_slice(b"\n")?;
     put_rules(alloc, &mut out, rules)?;
     out.extend_from_slice(b"\n")?;
