@@ -87,6 +87,7 @@ fn write_term(
 }
 
 /// Appends the text of a step with a label.
+#[inline]
 pub(crate) fn write_step(
     out: &mut Vec<u8>,
     label: u8,

@@ -80,6 +80,7 @@ fn write_word(
 }
 
 /// Appends the step of a symbol.
+#[inline(always)]
 fn write_symbol(
     out: &mut Vec<u8>,
     symbol: Symbol,

@@ -12,3 +12,4 @@ pub mod PassLemmas
 pub mod HeadPassLemmas
 pub mod QueryPassLemmas
 pub mod ReadingLemmas
+pub mod PartLemmas

@@ -2,14 +2,15 @@
 
 ghost use Rattle.std.specs.Prelude.{◌≡◌, ◌∷◌, [], None, option_map, MatchOption, IfNone};
 ghost use Rattle.std.specs.List.{slice_split, list_all};
-ghost use Rattle.gm_text.specs.Lines.{is_byte};
+ghost use Rattle.gm_text.specs.Lines.{is_byte, words_of};
 ghost use Rattle.gm_text.specs.Decimal.{is_canonical};
 ghost use Rattle.workload_text.specs.View.{parts_left};
-ghost use Rattle.workload_text.specs.Forms.{one_word, two_words, four_words, is_variable, is_against, number_word, is_union_word, is_starred_word, within_star};
+ghost use Rattle.workload_text.specs.Forms.{one_word, two_words, four_words, rest_of, is_variable, is_against, number_word, is_union_word, is_starred_word, within_star};
 ghost use Rattle.workload_text.specs.Joined.{is_joint, starts_number, fits};
 
 use crate::sorts::begins_with_x;
 use gm_text::{Words, cut_at, is_canonical};
+use memchr::memchr;
 use std::marker::Model;
 
 /// The parts of bytes between a separator, each taken once.
@@ -84,6 +85,36 @@ pub(crate) fn two_words<'t>(words: &mut Words<'t>) -> Option<(&'t [u8], &'t [u8]
         return None;
     };
     Some((first, second))
+}
+
+/// The two words after the first one of a line, which may be long.
+pub(crate) fn two_after_first(bytes: &[u8]) -> Option<(&[u8], &[u8])>
+    ensures { option_map (λ w. (w.0.now, w.1.now)) result ≡ two_words (rest_of (words_of bytes.now)) }
+{
+    let Some((_first, rest)) = cut_long(bytes, b' ') else {
+        return None;
+    };
+    let Some((second, third)) = cut_long(rest, b' ') else {
+        return None;
+    };
+    let Some(_more) = cut_long(third, b' ') else {
+        return Some((second, third));
+    };
+    None
+}
+
+/// What stands before the first such byte, and what stands after it, or `None` exactly where there is none.
+///
+/// It is sought in many bytes at once, so this is for parts that may be long.
+fn cut_long(bytes: &[u8], end: u8) -> Option<(&[u8], &[u8])>
+    ensures { MatchOption result
+        (slice_split (is_byte end) bytes.now ≡ bytes.now ∷ [])
+        (λ cut. slice_split (is_byte end) bytes.now ≡ cut.0.now ∷ slice_split (is_byte end) cut.1.now) }
+{
+    let Some(place) = memchr(end, bytes) else {
+        return None;
+    };
+    Some((&bytes[..place], &bytes[place + 1..]))
 }
 
 /// Two words, of which others follow.

@@ -12,7 +12,8 @@ ghost use Rattle.workload_text.specs.Writing.{word_bytes, is_fit, gap, mark, rul
 
 use crate::fixed::{class_or_none, kind_word, op_word, shape_word};
 use crate::head::WorkHead;
-use gm_text::{Name, Span, write_decimal};
+use gm_text::{Name, Span};
+use itoa::Buffer;
 use query_terms::{Conjunct, Query, Rule};
 use schema_graph::Schema;
 use sel_algebra::{Kind, Symbol};
@@ -285,11 +286,12 @@ fn write_bytes(out: &mut Vec<u8>, bytes: &[u8]) -> Result<(), AllocError>
 }
 
 /// Appends the decimal of a number.
-fn write_number(alloc: Global, out: &mut Vec<u8>, n: u32) -> Result<(), AllocError>
+#[inline(always)]
+fn write_number(_alloc: Global, out: &mut Vec<u8>, n: u32) -> Result<(), AllocError>
     ensures ok { OnOk result (out.new.items ≡ out.old.items ++ decimal n) }
     ensures err { OnErr result (AppendsPart out.old.items out.new.items (decimal n)) }
 {
-    write_decimal(alloc, out, n.into())
+    out.extend_from_slice(Buffer::new().format(n).as_bytes())
 }
 
 /// Appends a variable.

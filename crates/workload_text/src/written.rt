@@ -10,8 +10,8 @@ ghost use Rattle.workload_text.specs.View.{asked_view, line_view, IsOfSort};
 
 use crate::fixed::{class_of_word, format_of_word, kind_of_word, op_of_word, shape_of_word};
 use crate::parts::{
-    are_variables, four_words, is_starred_word, is_union_word, is_variable, one_word, two_words,
-    within_star,
+    are_variables, four_words, is_starred_word, is_union_word, is_variable, one_word,
+    two_after_first, two_words, within_star,
 };
 use crate::sorts::{Sort, first_word};
 use gm_text::{Words, is_canonical, is_name};
@@ -205,7 +205,7 @@ fn read_conjunct(bytes: &[u8]) -> Option<Written<'_>>
     ensures form { IfSome result (IsOfSort Sort.Conjunct) }
 {
     let src = first_word(bytes);
-    let Some((expr, trg)) = two_words(&mut rest_of(bytes)) else {
+    let Some((expr, trg)) = two_after_first(bytes) else {
         return None;
     };
     if !are_conjunct_words(src, expr, trg) {
