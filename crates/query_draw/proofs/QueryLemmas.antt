@@ -21,7 +21,7 @@ use Rattle.query_terms.specs.Values.{RuleValue, QueryValue, arity_of, has_class}
 use Rattle.sel_graph.specs.Moves.{ReachValue}
 use Rattle.query_draw.specs.Drawn.{Words, words_for, drawn_from, rule_conjuncts}
 use Rattle.query_draw.proofs.LegLemmas.{words_for-words}
-use Rattle.query_draw.specs.Query.{reach_of, drawn_shape, drawn_class, rule_count, wanted_arity, rule_size, at_most_variables, drawn_arity, heads_of, drawn_rule, drawn_rules, has_query, query_of, drawn_query, narrow}
+use Rattle.query_draw.specs.Query.{reach_of, drawn_shape, drawn_class, rule_count, wanted_arity, rule_size, at_most_variables, drawn_arity, heads_of, drawn_rule, drawn_rules, has_query, query_of}
 use Rattle.query_draw.specs.Wide.{query_wide}
 use Rattle.query_draw.proofs.RuleLemmas.{rule_is_begun, wide_is_there}
 use Rattle.query_draw.proofs.HeadLemmas.{AreHeads, heads_are}
@@ -175,24 +175,18 @@ class_there c is seed number arity class found rules any same are rules_are =
     let some : 0 < rule_count c seed number = omega (arith, is.workload.rules.above) in
     ap is_some are ∙ (is_there (arity == 2) class ∙ (ap (λ n. n == 2) same ∙ (sym (has_class_is c is seed number any (arity_few c is seed number) some) ∙ ap has_class (sym rules_are))))
 
--- the query of these parts is the drawn one, with its class in the place of its wide class
-pub planned_is : (c : ConfigValue) → IsConfig c → (seed number arity : ℕ) (class : Class) (found : Option Class) (labels : List ℕ) (shape : Shape) (rules : List RuleValue)
+-- the query of these parts is the drawn one
+pub planned_is : (c : ConfigValue) → IsConfig c → (seed number arity : ℕ) (class : Class) (found wide : Option Class) (labels : List ℕ) (shape : Shape) (rules : List RuleValue)
     → has_query c seed number ≡ true → arity ≡ drawn_arity c seed number → class ≡ drawn_class c seed number → found ≡ (if arity == 2 then Some class else None)
-    → labels ≡ map (λ e. e.label) (schema_of c).edges → shape ≡ drawn_shape c seed number → rules ≡ drawn_rules c seed number
-    → ◌≡◌ {A = QueryValue} (record { labels = labels; shape = shape; class = found; wide = found; rules = rules }) (narrow (query_of c seed number))
-planned_is c is seed number arity class found labels shape rules any same classes are named shapes made =
+    → labels ≡ map (λ e. e.label) (schema_of c).edges → shape ≡ drawn_shape c seed number → rules ≡ drawn_rules c seed number → wide ≡ query_wide (schema_of c) shape rules
+    → ◌≡◌ {A = QueryValue} (record { labels = labels; shape = shape; class = found; wide = wide; rules = rules }) (query_of c seed number)
+planned_is c is seed number arity class found wide labels shape rules any same classes are named shapes made wide_is =
     let some : 0 < rule_count c seed number = omega (arith, is.workload.rules.above) in
     let two : (arity == 2) ≡ has_class (drawn_rules c seed number) =
     ap (λ n. n == 2) same ∙ sym (has_class_is c is seed number any (arity_few c is seed number) some) in
     let found_is : found ≡ (query_of c seed number).class = are ∙ (λ k. if two k then Some (classes k) else None) in
-    λ k. record { labels = named k; shape = shapes k; class = found_is k; wide = found_is k; rules = made k }
-
--- the drawn query, once its wide class is worked out
-pub widened_is : (c : ConfigValue) (seed number : ℕ) (q : QueryValue) (wide : Option Class) → has_query c seed number ≡ true → q ≡ narrow (query_of c seed number)
-    → wide ≡ query_wide (schema_of c) q.shape q.rules → drawn_query c seed number ≡ Some (record q { wide = wide })
-widened_is c seed number q wide any same wide_is =
-    let there : (query_of c seed number).wide ≡ wide = sym (wide_is ∙ ap (λ (v : QueryValue). query_wide (schema_of c) v.shape v.rules) same) in
-    ap (λ b. if b then Some (query_of c seed number) else None) any ∙ (λ k. Some (record (sym same k) { wide = there k }))
+    let there : wide ≡ (query_of c seed number).wide = wide_is ∙ (λ k. query_wide (schema_of c) (shapes k) (made k)) in
+    λ k. record { labels = named k; shape = shapes k; class = found_is k; wide = there k; rules = made k }
 
 -- it has a wide class just where it has two heads
 pub wide_there : (c : ConfigValue) → IsConfig c → (seed number : ℕ) (wide : Option Class) (shape : Shape) (rules : List RuleValue) → has_query c seed number ≡ true

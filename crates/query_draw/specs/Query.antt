@@ -8,7 +8,6 @@
 --   drawn_rule, drawn_rules             a rule, and all rules
 --   has_query                           some number of conjuncts in range has a start that can meet the shape and the class
 --   drawn_query c seed number           the query, and none where there is no such number
---   narrow q                            a query with its class in the place of its wide class
 use Rattle.std.specs.Prelude.{ℕ, ◌+◌, ◌-◌, nat_lt, Bool, if◌then◌else◌, Option, Some, None, List, ◌∷◌, ◌++◌, map, min, take}
 use Rattle.std.specs.List.{range_with_len, list_any, fold}
 use Rattle.sel_algebra.specs.declared.vocabulary.Class.{Class}
@@ -104,7 +103,3 @@ query_of c seed number = record {
 -- the query of a number, and none where no number of conjuncts can meet its shape and class
 abbrev pub drawn_query : ConfigValue → ℕ → ℕ → Option QueryValue
 drawn_query c seed number = if has_query c seed number then Some (query_of c seed number) else None
-
--- a query with its class in the place of its wide class
-abbrev pub narrow : QueryValue → QueryValue
-narrow q = record q { wide = q.class }

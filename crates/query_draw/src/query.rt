@@ -4,7 +4,7 @@ ghost use Rattle.std.specs.Prelude.{◌≡◌, ◌<◌, ◌≤◌, ◌==◌, if�
 ghost use Rattle.schema_graph.specs.Configured.{schema_of};
 ghost use Rattle.query_terms.specs.Building.{begun};
 ghost use Rattle.query_terms.specs.View.{query_value};
-ghost use Rattle.query_draw.specs.Query.{reach_of, drawn_arity, rule_size, has_query, query_of, drawn_query, narrow};
+ghost use Rattle.query_draw.specs.Query.{reach_of, drawn_arity, rule_size, has_query, query_of, drawn_query};
 ghost use Rattle.query_draw.specs.Refusals.{IsRefusal};
 ghost use Rattle.query_draw.specs.Plans.{sizes_of, rules_of};
 
@@ -45,29 +45,6 @@ pub fn draw_query<'a>(
     ensures there { OnOk result (has_query config.now seed query ≡ true) }
     ensures no_such { IfErr result (IsRefusal config.now seed query) }
 {
-    let _ = config.workload();
-    let mut drawn = draw_narrow(alloc, config, schema, reach, seed, query, arena)?;
-    drawn.wide = wide_class(alloc, schema, &drawn)?;
-    Ok(drawn)
-}
-
-/// The same query with its class in the place of its wide class.
-fn draw_narrow<'a>(
-    alloc: Global,
-    config: &Config,
-    schema: &Schema,
-    reach: &Reach,
-    seed: u64,
-    query: u32,
-    arena: &'a Arena,
-) -> Result<Query<'a>, DrawError>
-    requires reach { reach.now ≡ reach_of config.now }
-    requires schema { schema.now ≡ schema_of config.now }
-    requires query { query < config.now.workload.queries }
-    ensures drawn { IfOk result (λ drawn. query_value drawn ≡ narrow (query_of config.now seed query)) }
-    ensures there { OnOk result (has_query config.now seed query ≡ true) }
-    ensures no_such { IfErr result (IsRefusal config.now seed query) }
-{
     let shape = draw_shape(config, seed, query);
     let class = draw_class(config, seed, query);
     if !has_query(config, reach, seed, query) {
@@ -89,13 +66,13 @@ fn draw_narrow<'a>(
     Ok(draw_planned(alloc, &plan, arena)?)
 }
 
-/// The query that is planned, with its class in the place of its wide class.
+/// The query that is planned.
 fn draw_planned<'a>(
     alloc: Global,
     plan: &Plan<'_>,
     arena: &'a Arena,
 ) -> Result<Query<'a>, AllocError>
-    ensures { IfOk result (λ drawn. query_value drawn ≡ narrow (query_of plan.now.config.now plan.now.seed plan.now.query)) }
+    ensures { IfOk result (λ drawn. query_value drawn ≡ query_of plan.now.config.now plan.now.seed plan.now.query) }
 {
     let _ = plan.config.workload();
     let sizes = draw_sizes(alloc, plan)?;
@@ -104,7 +81,9 @@ fn draw_planned<'a>(
     let mut builder = QueryBuilder::new(alloc, arena, &labels)?;
     draw_rules(alloc, &mut builder, plan, &sizes, arity)?;
     let class = class_with(plan.class, arity);
-    builder.finish(plan.shape, class, class)
+    let mut query = builder.finish(plan.shape, class, class)?;
+    query.wide = wide_class(alloc, plan.schema, &query)?;
+    Ok(query)
 }
 
 /// The class of a query with so many heads: it has one where they are two.

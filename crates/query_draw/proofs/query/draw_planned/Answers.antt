@@ -1,9 +1,9 @@
-use Rattle.std.proofs.Common.{◌≡◌, ◌∙◌, length, map, ap, arith}
+use Rattle.std.proofs.Common.{◌∙◌, length, map, ap, arith}
 use Rattle.std.proofs.lemmas.List.FromFn.{length-map-range_with_len}
-use Rattle.std.proofs.lemmas.Result.{IfOk-weaker}
-use Rattle.query_terms.specs.View.{query_value}
-use Rattle.query_draw.specs.Query.{rule_count, rule_size, query_of, narrow}
-use Rattle.query_draw.proofs.QueryLemmas.{few_rules, arity_few, rules_some, class_there, planned_is}
+use Rattle.query_terms.specs.Lists.{rules_in}
+use Rattle.query_draw.specs.Query.{rule_count, rule_size}
+use Rattle.query_draw.specs.Wide.{query_wide}
+use Rattle.query_draw.proofs.QueryLemmas.{few_rules, arity_few, rules_some, class_there, planned_is, wide_there}
 use Rattle.query_draw.proofs.query.draw_planned.Goals as goal
 
 pub draw_rules-requires-clause-few : goal.draw_rules-requires-clause-few
@@ -41,17 +41,45 @@ finish-requires-clause-wide c =
     class_there plan.config.now c.workload.ensures.config plan.seed plan.query c.draw_arity-arity.result plan.class c.class_with-class.result c.draw_rules.new.builder.rules
     plan.there_is c.draw_arity-arity.ensures c.class_with-class.ensures (ap (λ b. b.rules) c.in_ok-draw_rules.ensures)
 
+pub invariant_of-query : goal.invariant_of-query
+invariant_of-query c =
+    let plan = c.args.plan.now in
+    let q = c.in_ok-query.query in
+    let value = c.in_ok-query.ensures in
+    let shape = ap (λ v. v.shape) value ∙ plan.shape_is in
+    let rules = ap (λ v. v.rules) value ∙ ap (λ b. b.rules) c.in_ok-draw_rules.ensures in
+    let wide = c.in_ok-query-2.ensures ∙ ap (λ g. query_wide g q.shape (rules_in q.symbols.now q.words.now q.conjuncts.now q.rules.now)) plan.schema_is in
+    record {
+      symbols_are = q.symbols_are;
+      words_are = q.words_are;
+      words_lie = q.words_lie;
+      conjuncts_cover = q.conjuncts_cover;
+      rules_cover = q.rules_cover;
+      conjuncts_lie = q.conjuncts_lie;
+      rules_lie = q.rules_lie;
+      heads_are = q.heads_are;
+      rules_are = q.rules_are;
+      class_is = q.class_is;
+      wide_is = wide_there plan.config.now c.workload.ensures.config plan.seed plan.query c.in_ok-query-2.field-0 q.shape _ plan.there_is shape rules wide;
+      terms_are = q.terms_are;
+      numbers_are = q.numbers_are;
+      terms_lie = q.terms_lie;
+    }
+
 pub returns : goal.returns
 returns c =
     let plan = c.args.plan.now in
-    let config = plan.config.now in
-    let put = c.in_ok-draw_rules.ensures in
+    let q = c.in_ok-query.query in
+    let value = c.in_ok-query.ensures in
+    let shape = ap (λ v. v.shape) value ∙ plan.shape_is in
+    let rules = ap (λ v. v.rules) value ∙ ap (λ b. b.rules) c.in_ok-draw_rules.ensures in
+    let wide = c.in_ok-query-2.ensures ∙ ap (λ g. query_wide g q.shape (rules_in q.symbols.now q.words.now q.conjuncts.now q.rules.now)) plan.schema_is in
     let labels =
-    ap (λ b. b.labels) put
+    ap (λ v. v.labels) value
+    ∙ ap (λ b. b.labels) c.in_ok-draw_rules.ensures
     ∙ ap (λ b. b.labels) c.in_ok-builder.ensures
     ∙ c.deref-2.ensures.value
     ∙ c.in_ok-labels.ensures
     ∙ ap (λ g. map (λ e. e.label) g.edges) plan.schema_is in
-    let is = planned_is config c.workload.ensures.config plan.seed plan.query c.draw_arity-arity.result plan.class c.class_with-class.result _ plan.shape _
-    plan.there_is c.draw_arity-arity.ensures plan.class_is c.class_with-class.ensures labels plan.shape_is (ap (λ b. b.rules) put) in
-    IfOk-weaker c.finish.result (λ drawn. query_value drawn ≡ _) (λ drawn. query_value drawn ≡ narrow (query_of config plan.seed plan.query)) (λ drawn value. value ∙ is) c.finish.ensures
+    planned_is plan.config.now c.workload.ensures.config plan.seed plan.query c.draw_arity-arity.result plan.class q.class c.in_ok-query-2.field-0 q.labels.now q.shape _
+    plan.there_is c.draw_arity-arity.ensures plan.class_is (ap (λ v. v.class) value ∙ c.class_with-class.ensures) labels shape rules wide
