@@ -3,7 +3,6 @@
 
 mod columns;
 pub mod laws;
-mod line;
 mod links;
 mod names;
 mod query;

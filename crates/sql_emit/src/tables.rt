@@ -6,9 +6,12 @@ ghost use Rattle.query_terms.specs.Store.{IsStore};
 ghost use Rattle.sql_emit.specs.Text.{steps_text, body_text, term_line, tables_text};
 ghost use Rattle.sql_emit.specs.Laws.{label_fits};
 
-use crate::line::Line;
+use gm_text::BackwardText;
 use query_terms::{Term, TermId, TermStore};
 use std::alloc::AllocError;
+
+/// The line of a term, of at most 160 bytes.
+type Line = BackwardText<160>;
 
 const NODES: &[u8] = b"nodes(v) AS (SELECT e.src FROM edge AS e UNION SELECT e.trg FROM edge AS e)";
 
