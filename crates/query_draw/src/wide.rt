@@ -5,7 +5,7 @@ ghost use Rattle.std.specs.List.{list_all};
 ghost use Rattle.sel_algebra.specs.Table.{entry};
 ghost use Rattle.skeletons.specs.Skeleton.{spine_of};
 ghost use Rattle.query_terms.specs.Values.{is_word, is_conjunct, is_rule};
-ghost use Rattle.query_terms.specs.Spans.{cut, lies};
+ghost use Rattle.query_terms.specs.Spans.{lies};
 ghost use Rattle.query_terms.specs.Lists.{words_in, conjunct_in, conjuncts_in, rule_in};
 ghost use Rattle.query_terms.specs.View.{query_value};
 ghost use Rattle.query_draw.specs.Columns.{AreColumns};
@@ -16,7 +16,7 @@ use crate::along::{Work, follow_word};
 use crate::classes::greatest_class;
 use crate::products::{close, multiply};
 use gm_text::Span;
-use query_terms::{Conjunct, Query, Rule};
+use query_terms::{Conjunct, Query, Rule, part_of};
 use schema_graph::Schema;
 use sel_algebra::{Class, Shape, greater_class};
 use std::alloc::{AllocError, Global};
@@ -51,7 +51,7 @@ fn rule_wide(schema: &Schema, query: &Query<'_>, rule: &Rule, work: &mut Work) -
     ensures value { result ≡ rule_wide schema.now query.now.shape (rule_in (conjuncts_in query.now.symbols.now query.now.words.now query.now.conjuncts.now) rule.now) }
     ensures work { IsWork schema.now work.new }
 {
-    let conjuncts = cut(query.conjuncts, rule.conjuncts);
+    let conjuncts = part_of(query.conjuncts, rule.conjuncts);
     let spine = first(conjuncts, spine_of(query.shape, conjuncts.len()));
     follow_spine(schema, query, spine, work);
     greatest_class(schema.kinds(), &work.spine)
@@ -101,7 +101,7 @@ fn follow_conjunct(schema: &Schema, query: &Query<'_>, conjunct: &Conjunct, work
     ensures work { IsWork schema.now work.new }
     ensures spine { work.new.spine ≡ work.old.spine }
 {
-    let words = cut(query.words, conjunct.words);
+    let words = part_of(query.words, conjunct.words);
     join_words(schema, query, words, work);
     if conjunct.star {
         close(
@@ -126,7 +126,7 @@ fn join_words(schema: &Schema, query: &Query<'_>, words: &[Span], work: &mut Wor
 {
     work.union.clear();
     for span in words {
-        follow_word(schema, cut(query.symbols, *span), work);
+        follow_word(schema, part_of(query.symbols, *span), work);
         work.union.join(&work.word);
     }
 }
@@ -137,13 +137,4 @@ fn first<T>(items: &[T], count: usize) -> &[T]
     ensures { result.now ≡ take count items.now }
 {
     &items[..count]
-}
-
-/// The part of a list that a span is.
-fn cut<T>(items: &[T], span: Span) -> &[T]
-    requires { lies (length items.now) span ≡ true }
-    ensures { result.now ≡ cut items.now span }
-{
-    let first = span.first as usize;
-    &items[first..first + span.count as usize]
 }

@@ -2,7 +2,8 @@
 use Rattle.std.proofs.Common.{◌≡◌, ℕ, zero, suc, ◌+◌, ◌-◌, ◌<◌, ◌≤◌, Bool, true, false, ◌&&◌, List, [], ◌∷◌, ◌++◌, length, map, take, drop, fold, refl, sym, ap, ◌∙◌, true≢false, arith}
 use Rattle.std.proofs.lemmas.Bool.{leb-true, le-leb, eqb-true, eq-eqb}
 use Rattle.std.proofs.lemmas.List.{drop-take, drop-drop, take-map, drop-map, take_more, map-append}
-use Rattle.std.proofs.lemmas.List.Sums.{fold_push}
+use Rattle.std.proofs.lemmas.List.Elements.{All-take, All-drop}
+use Rattle.std.proofs.lemmas.List.Sums.{fold_push, AllPass-from_list_all, list_all-from_AllPass}
 use Rattle.std.proofs.lemmas.List.Folds.{list_all-map}
 use Rattle.std.proofs.Math.Seq.{take-add}
 use Rattle.std.specs.List.{list_all, flat_map, slice_index_or}
@@ -47,17 +48,9 @@ passes_mapped p h xs i d all lt = passes_nth (λ x. p (h x)) xs i d (sym (list_a
 
 -- the items of a part of it
 pub passes_cut : {X : Type 0} (p : X → Bool) (xs : List X) (span : Span) → list_all p xs ≡ true → list_all p (cut xs span) ≡ true
-passes_cut p xs span all = passes-take p span.count (drop span.first xs) (passes-drop p span.first xs all)
-  where
-    passes-take : {X : Type 0} (p : X → Bool) (n : ℕ) (xs : List X) → list_all p xs ≡ true → list_all p (take n xs) ≡ true
-    passes-take p zero xs all = refl
-    passes-take p (suc n) [] all = refl
-    passes-take p (suc n) (x ∷ xs) all = and_true (both (p x) (list_all p xs) all).0 (passes-take p n xs (both (p x) (list_all p xs) all).1)
-
-    passes-drop : {X : Type 0} (p : X → Bool) (n : ℕ) (xs : List X) → list_all p xs ≡ true → list_all p (drop n xs) ≡ true
-    passes-drop p zero xs all = all
-    passes-drop p (suc n) [] all = refl
-    passes-drop p (suc n) (x ∷ xs) all = passes-drop p n xs (both (p x) (list_all p xs) all).1
+passes_cut p xs span all =
+    let P : _ → Type 0 = λ x. p x ≡ true in
+    list_all-from_AllPass p (cut xs span) (All-take P span.count (drop span.first xs) (All-drop P span.first xs (AllPass-from_list_all p xs all)))
 
 -- a part of what a function makes of a list
 pub cut-map : {X Y : Type 0} (h : X → Y) (xs : List X) (span : Span) → cut (map h xs) span ≡ map h (cut xs span)

@@ -13,6 +13,7 @@ mod layout;
 mod listed;
 mod outline;
 mod query;
+mod spans;
 mod steps;
 mod store;
 mod terms;
@@ -23,6 +24,7 @@ pub use building::QueryBuilder;
 pub use gm_text::Span;
 pub use outline::Outline;
 pub use query::Query;
+pub use spans::part_of;
 pub use store::TermStore;
 pub use terms::{Conjunct, Heads, Rule, Term, TermId};
 

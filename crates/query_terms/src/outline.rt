@@ -4,11 +4,12 @@ ghost use Rattle.std.specs.Prelude.{◌≡◌, true, length, fold, IfOk, OnOk};
 ghost use Rattle.std.specs.List.{list_all};
 ghost use Rattle.query_terms.specs.Values.{has_edge, is_conjunct, is_word};
 ghost use Rattle.query_terms.specs.Lists.{conjuncts_in, words_in};
-ghost use Rattle.query_terms.specs.Spans.{cut, lies};
+ghost use Rattle.query_terms.specs.Spans.{lies};
 ghost use Rattle.query_terms.specs.Outline.{after_symbol, after_word, after_conjuncts};
 ghost use Rattle.query_terms.specs.View.{query_value};
 
 use crate::query::Query;
+use crate::spans::part_of;
 use crate::store::TermStore;
 use crate::terms::{Conjunct, Rule};
 use crate::underway::Numbering;
@@ -146,13 +147,4 @@ fn number_steps(
         numbering.step(labels[symbol.edge as usize], symbol.back)?;
     }
     Ok(())
-}
-
-/// The items of a part.
-fn part_of<T>(items: &[T], part: Span) -> &[T]
-    requires { lies (length items.now) part ≡ true }
-    ensures { result.now ≡ cut items.now part }
-{
-    let from = &items[part.first as usize..];
-    &from[..part.count as usize]
 }

@@ -19,13 +19,12 @@ use Rattle.query_terms.specs.Values.{has_edge, is_word, is_conjunct, is_rule, ar
 use Rattle.query_terms.specs.Lists.{words_in, rules_in}
 use Rattle.query_terms.specs.Spans.{cut, lies}
 use Rattle.query_terms.specs.Laws.{tree_of_conjunct}
-use Rattle.query_terms.proofs.SpanLemmas.{and_true}
+use Rattle.query_terms.proofs.SpanLemmas.{and_true, cut-map}
 use Rattle.query_terms.proofs.QueryLemmas.{conjuncts_are, conjuncts_keep}
 use Rattle.rpq_meaning.proofs.QueryLemmas.{cut-member, inside_all, tree_of_term}
 use Rattle.sparql_emit.specs.Laws.{has_label}
 use Rattle.sparql_emit.specs.Words.{conjunct_of, SymbolFits, WordFits, ConjunctFits}
 use Rattle.sparql_emit.proofs.TodoLemmas.{IsHere, is_here, tree_is, list_all-get}
-use Rattle.sparql_emit.proofs.QueryLemmas.{cut_map}
 
 -- each step of the tree has one of so many labels
 abbrev tree_fits : ℕ → Tree → Bool
@@ -103,7 +102,7 @@ module _ (count : ℕ) where
     conjunct_fits c lie is fits =
         let edges = length q.labels.now in
         let spans = cut q.words.now c.words in
-        let same : cut (words_in q.symbols.now q.words.now) c.words ≡ words_in q.symbols.now spans = cut_map (cut q.symbols.now) q.words.now c.words in
+        let same : cut (words_in q.symbols.now q.words.now) c.words ≡ words_in q.symbols.now spans = cut-map (cut q.symbols.now) q.words.now c.words in
         let words = words_in q.symbols.now spans in
         let parts = and_parts (nat_lt 0 (length words)) (list_all (is_word edges) words) (subst (λ ws. (nat_lt 0 (length ws) && list_all (is_word edges) ws) ≡ true) same is) in
         let trees = nested_fit Tree.Alt (λ a b. refl) (word_tree q.labels.now) words

@@ -2,7 +2,7 @@
 use Rattle.std.proofs.Common.{◌≡◌, ℕ, Bool, true, List, [], ◌∷◌, ◌++◌, length, map, take, drop, codes, refl, sym, ap, ◌∙◌}
 use Rattle.std.specs.List.{All, flat_map, join_by, list_all}
 use Rattle.std.proofs.lemmas.Bool.{and_parts}
-use Rattle.std.proofs.lemmas.List.{take-map, drop-map, append_assoc}
+use Rattle.std.proofs.lemmas.List.{append_assoc}
 use Rattle.std.proofs.lemmas.List.Folds.{flat_map-map, list_all-append, list_all-map}
 use Rattle.gm_text.specs.declared.lists.Span.{Span}
 use Rattle.sel_algebra.specs.declared.vocabulary.Symbol.{Symbol}
@@ -12,7 +12,7 @@ use Rattle.query_terms.specs.declared.terms.Rule.{Rule}
 use Rattle.query_terms.specs.Values.{conjuncts_of, are_rules}
 use Rattle.query_terms.specs.Lists.{heads_in, is_heads, rules_in}
 use Rattle.query_terms.specs.Spans.{cut, lies}
-use Rattle.query_terms.proofs.SpanLemmas.{and_true, list_all_more}
+use Rattle.query_terms.proofs.SpanLemmas.{and_true, list_all_more, cut-map}
 use Rattle.rpq_meaning.proofs.RowLemmas.{rules_fit}
 use Rattle.sparql_emit.specs.QueryText.{conjunct_text, rule_line}
 use Rattle.sparql_emit.specs.Laws.{conjunct_has_names}
@@ -30,9 +30,6 @@ three_written a b c one two three four first second third fourth =
 pub join_by-map : {X Y : Type 0} (f : Y → List ℕ) (between : List ℕ) (h : X → Y) (xs : List X) → join_by (λ x. f (h x)) between xs ≡ join_by f between (map h xs)
 join_by-map f between h [] = refl
 join_by-map f between h (x ∷ xs) = ap (λ (bs : List ℕ). f (h x) ++ bs) (sym (flat_map-map (λ y. between ++ f y) h xs))
-
-pub cut_map : {X Y : Type 0} (f : X → Y) (xs : List X) (s : Span) → cut (map f xs) s ≡ map f (cut xs s)
-cut_map f xs s = ap (take s.count) (drop-map f s.first xs) ∙ take-map f s.count (drop s.first xs)
 
 -- ---- what a query's lists keep
 
@@ -53,7 +50,7 @@ module _ (names : List (List ℕ)) (q : Query) where
   line_done r conjuncts out begun now done are begin texts end =
       let f = conjunct_text names q.labels.now (heads_in r.heads) in
       let same : flat_map (λ c. f (conjunct_of q c)) conjuncts ≡ flat_map f (rule_of q r).conjuncts =
-      sym (flat_map-map f (conjunct_of q) conjuncts) ∙ ap (flat_map f) (ap (map (conjunct_of q)) are ∙ sym (cut_map (conjunct_of q) q.conjuncts.now r.conjuncts)) in
+      sym (flat_map-map f (conjunct_of q) conjuncts) ∙ ap (flat_map f) (ap (map (conjunct_of q)) are ∙ sym (cut-map (conjunct_of q) q.conjuncts.now r.conjuncts)) in
       end
       ∙ (ap (λ (bs : List ℕ). bs ++ codes " }\n") (texts ∙ λ i. begin i ++ same i)
       ∙ (append_assoc (out ++ codes "{") (flat_map f (rule_of q r).conjuncts) (codes " }\n")
@@ -62,7 +59,7 @@ module _ (names : List (List ℕ)) (q : Query) where
   pub line_plain : (r : Rule) (conjuncts : List Conjunct) → conjuncts ≡ cut q.conjuncts.now r.conjuncts
       → list_all (λ c. is_plain names q.labels.now (conjunct_of q c)) conjuncts ≡ true → list_all (is_plain names q.labels.now) (rule_of q r).conjuncts ≡ true
   line_plain r conjuncts are plain =
-      ap (list_all (is_plain names q.labels.now)) (cut_map (conjunct_of q) q.conjuncts.now r.conjuncts ∙ ap (map (conjunct_of q)) (sym are))
+      ap (list_all (is_plain names q.labels.now)) (cut-map (conjunct_of q) q.conjuncts.now r.conjuncts ∙ ap (map (conjunct_of q)) (sym are))
       ∙ (list_all-map (is_plain names q.labels.now) (conjunct_of q) conjuncts ∙ plain)
 
   -- ---- the rules, one by one

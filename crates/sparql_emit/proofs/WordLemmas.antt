@@ -14,11 +14,11 @@ use Rattle.query_terms.specs.declared.terms.Conjunct.{Conjunct}
 use Rattle.query_terms.specs.Lists.{words_in}
 use Rattle.query_terms.specs.Spans.{cut}
 use Rattle.query_terms.specs.Laws.{tree_of_conjunct}
-use Rattle.query_terms.proofs.SpanLemmas.{and_true}
+use Rattle.query_terms.proofs.SpanLemmas.{and_true, cut-map}
 use Rattle.sparql_emit.specs.PathText.{in_parentheses, is_alt, path_text_of}
 use Rattle.sparql_emit.specs.Laws.{has_names}
 use Rattle.sparql_emit.specs.Words.{conjunct_of, symbol_text, word_text, symbol_has_name, word_has_names, WordFits, ConjunctFits}
-use Rattle.sparql_emit.proofs.QueryLemmas.{join_by-map, cut_map}
+use Rattle.sparql_emit.proofs.QueryLemmas.{join_by-map}
 
 -- a word is no choice
 steps_no_alt : (labels : List ℕ) (tree : Tree) (word : List Symbol) → is_alt tree ≡ false → is_alt (fold Tree.Seq tree (map (step_tree labels) word)) ≡ false
@@ -127,17 +127,17 @@ module _ (names : List (List ℕ)) (q : Query) (count : ℕ) (c : Conjunct) (fit
   words = (conjunct_of q c).words
 
   words_are : words_in q.symbols.now spans ≡ words
-  words_are = ap (words_in q.symbols.now) are ∙ sym (cut_map (cut q.symbols.now) q.words.now c.words)
+  words_are = ap (words_in q.symbols.now) are ∙ sym (cut-map (cut q.symbols.now) q.words.now c.words)
 
   one_word : 0 < length words
   one_word =
-      subst (λ ws. 0 < length ws) (sym (cut_map (cut q.symbols.now) q.words.now c.words))
+      subst (λ ws. 0 < length ws) (sym (cut-map (cut q.symbols.now) q.words.now c.words))
       (subst (λ n. 0 < n) (sym (length-map (cut q.words.now c.words) (cut q.symbols.now))) fits.some)
 
   some_symbol : (word : List Symbol) → Contains words word → 0 < length word
   some_symbol word has =
       let spans = cut q.words.now c.words in
-      let found = Contains-from_map (cut q.symbols.now) spans word (subst (λ ws. Contains ws word) (cut_map (cut q.symbols.now) q.words.now c.words) has) in
+      let found = Contains-from_map (cut q.symbols.now) spans word (subst (λ ws. Contains ws word) (cut-map (cut q.symbols.now) q.words.now c.words) has) in
       subst (λ w. 0 < length w) found.2 (All-contains (WordFits q count) spans found.0 fits.each found.1).some
 
   union_is : join_by (λ span. word_text names labels (cut q.symbols.now span)) (codes "|") spans ≡ union_text names labels words

@@ -11,9 +11,9 @@ ghost use Rattle.sparql_emit.specs.Laws.{has_label};
 ghost use Rattle.sparql_emit.specs.RowLaws.{HasQueryRows};
 ghost use Rattle.sparql_emit.specs.Words.{conjunct_of, rule_of, ConjunctFits, RuleFits, is_plain};
 
-use crate::words::{part_of, write_path};
+use crate::words::write_path;
 use gm_text::{Names, write_decimal};
-use query_terms::{Conjunct, Query, Rule};
+use query_terms::{Conjunct, Query, Rule, part_of};
 use std::alloc::{AllocError, Global};
 
 /// The room for a step, one for each term. A name of up to 13 bytes takes no more, between `^:` and `/`.

@@ -2,7 +2,7 @@
 
 ghost use Rattle.std.specs.Prelude.{◌≡◌, ◌++◌, true, length, codes, OnOk};
 ghost use Rattle.std.specs.List.{All, list_all, join_by};
-ghost use Rattle.query_terms.specs.Spans.{cut, lies};
+ghost use Rattle.query_terms.specs.Spans.{cut};
 ghost use Rattle.query_terms.specs.Laws.{tree_of_conjunct};
 ghost use Rattle.sparql_emit.specs.PathText.{path_text_of};
 ghost use Rattle.sparql_emit.specs.Laws.{has_names};
@@ -10,7 +10,7 @@ ghost use Rattle.sparql_emit.specs.Words.{conjunct_of, symbol_text, word_text, s
 
 use crate::paths::write_step;
 use gm_text::{Names, Span};
-use query_terms::{Conjunct, Query};
+use query_terms::{Conjunct, Query, part_of};
 use sel_algebra::Symbol;
 use std::alloc::AllocError;
 
@@ -92,13 +92,4 @@ fn write_symbol(
     ensures name { OnOk result (symbol_has_name names.now labels.now symbol ≡ true) }
 {
     write_step(out, labels[symbol.edge as usize], symbol.back, names)
-}
-
-/// The items of a part.
-pub(crate) fn part_of<T>(items: &[T], part: Span) -> &[T]
-    requires { lies (length items.now) part ≡ true }
-    ensures { result.now ≡ cut items.now part }
-{
-    let from = &items[part.first as usize..];
-    &from[..part.count as usize]
 }

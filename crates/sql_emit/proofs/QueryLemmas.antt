@@ -1,7 +1,7 @@
 -- The rules of a query, as rules of links.
 use Rattle.std.proofs.Common.{◌≡◌, ℕ, zero, suc, ◌+◌, ◌≤◌, Bool, true, ◌&&◌, ◌||◌, nat_lt, List, [], ◌∷◌, length, take, drop, map, refl, sym, ap, subst, ◌∙◌, arith}
 use Rattle.std.specs.Prelude.{◌==◌, nat_le}
-use Rattle.std.specs.List.{list_all, take-map}
+use Rattle.std.specs.List.{list_all}
 use Rattle.std.proofs.lemmas.Bool.{and_parts}
 use Rattle.std.proofs.lemmas.Bool.Decides.{nat_tests}
 use Rattle.std.proofs.lemmas.List.{length-map, length-take, length-drop, drop-map, drop-drop}
@@ -10,6 +10,7 @@ use Rattle.query_terms.specs.declared.query.Query.{Query}
 use Rattle.query_terms.specs.declared.terms.Conjunct.{Conjunct}
 use Rattle.query_terms.specs.declared.terms.Rule.{Rule}
 use Rattle.query_terms.specs.Spans.{cut, lies, covers}
+use Rattle.query_terms.proofs.SpanLemmas.{passes_cut, cut-map}
 use Rattle.query_terms.specs.Lists.{is_heads, heads_in, words_in, conjunct_in, rule_in}
 use Rattle.query_terms.specs.Values as value
 use Rattle.query_terms.specs.Values.{ConjunctValue, RuleValue, arity_of, are_rules, is_rule, have_heads}
@@ -22,19 +23,6 @@ term_of c = c.term
 
 abbrev span_of : Rule → Span
 span_of r = r.conjuncts
-
-all_take : {A : Type 0} → (p : A → Bool) (n : ℕ) (xs : List A) → list_all p xs ≡ true → list_all p (take n xs) ≡ true
-all_take p zero xs all = refl
-all_take p (suc n) [] all = refl
-all_take p (suc n) (x ∷ xs) all = let parts = and_parts (p x) (list_all p xs) all in rw parts.0 (all_take p n xs parts.1)
-
-all_drop : {A : Type 0} → (p : A → Bool) (n : ℕ) (xs : List A) → list_all p xs ≡ true → list_all p (drop n xs) ≡ true
-all_drop p zero xs all = all
-all_drop p (suc n) [] all = refl
-all_drop p (suc n) (x ∷ xs) all = all_drop p n xs (and_parts (p x) (list_all p xs) all).1
-
-cut_map : {A B : Type 0} → (f : A → B) (xs : List A) (span : Span) → cut (map f xs) span ≡ map f (cut xs span)
-cut_map f xs span = ap (take span.count) (drop-map f span.first xs) ∙ take-map f span.count (drop span.first xs)
 
 -- rules whose spans lie in the conjuncts and whose heads are such
 pub rules_lie : (conjuncts : ℕ) (rs : List Rule) → list_all (lies conjuncts) (map span_of rs) ≡ true → list_all (λ r. is_heads r.heads) rs ≡ true
@@ -67,7 +55,7 @@ module _ (q : Query) (cs : List Conjunct) where
       let here : r.conjuncts.first ≡ from = first_is r.conjuncts.first from outer.0 in
       let within : r.conjuncts.first + r.conjuncts.count ≤ length cs = ends_within (r.conjuncts.first + r.conjuncts.count) (length cs) inner.0 in
       let cut_is : cut (map view cs) r.conjuncts ≡ map view (take r.conjuncts.count (drop from cs))
-      = cut_map view cs r.conjuncts ∙ ap (λ n. map view (take r.conjuncts.count (drop n cs))) here in
+      = cut-map view cs r.conjuncts ∙ ap (λ n. map view (take r.conjuncts.count (drop n cs))) here in
       let links : map link_of (cut cs r.conjuncts) ≡ links_of (cut (map view cs) r.conjuncts) (map term_of (drop from cs))
       = ap (λ n. map link_of (take r.conjuncts.count (drop n cs))) here ∙ sym (links_same (drop from cs) r.conjuncts.count)
       ∙ ap (λ vs. links_of vs (map term_of (drop from cs))) (sym cut_is) in
@@ -105,14 +93,14 @@ module _ (q : Query) (cs : List Conjunct) where
     rule_is r e =
         let v = value_of r in
         let ds = cut cs r.conjuncts in
-        let are : v.conjuncts ≡ map view ds = cut_map view cs r.conjuncts in
+        let are : v.conjuncts ≡ map view ds = cut-map view cs r.conjuncts in
         let outer = and_parts (nat_lt 0 (length v.conjuncts) && list_all (value.is_conjunct edges) v.conjuncts) (value.has_heads v) e in
         let some = (and_parts (nat_lt 0 (length v.conjuncts)) (list_all (value.is_conjunct edges) v.conjuncts) outer.0).0 in
         let heads = (and_parts (value.arity_built (length v.heads) && value.differ v.heads) (list_all (value.occurs v.conjuncts) v.heads) outer.1).1 in
         let long : length (map link_of ds) ≡ length v.conjuncts = length-map ds link_of ∙ sym (length-map ds view) ∙ ap length (sym are) in
         let terms_below : list_all (λ n. nat_lt n terms) (map term_of ds) ≡ true
-        = ap (list_all (λ n. nat_lt n terms)) (sym (cut_map term_of cs r.conjuncts))
-        ∙ all_take (λ n. nat_lt n terms) r.conjuncts.count (drop r.conjuncts.first (map term_of cs)) (all_drop (λ n. nat_lt n terms) r.conjuncts.first (map term_of cs) below) in
+        = ap (list_all (λ n. nat_lt n terms)) (sym (cut-map term_of cs r.conjuncts))
+        ∙ passes_cut (λ n. nat_lt n terms) (map term_of cs) r.conjuncts below in
         rw (
           ap (nat_lt 0) long ∙ some,
           sym (terms_same terms ds) ∙ terms_below,

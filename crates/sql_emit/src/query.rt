@@ -3,7 +3,6 @@
 ghost use Rattle.std.specs.Prelude.{◌≡◌, ◌+◌, true, length, map, IfOk};
 ghost use Rattle.std.specs.List.{list_all};
 ghost use Rattle.query_terms.specs.Lists.{heads_in, is_heads};
-ghost use Rattle.query_terms.specs.Spans.{cut, lies};
 ghost use Rattle.query_terms.specs.View.{query_value};
 ghost use Rattle.sql_emit.specs.Text.{query_links, sql_text_of};
 ghost use Rattle.rpq_meaning.specs.QueryRows.{IsQueryRow};
@@ -13,8 +12,8 @@ ghost use Rattle.sql_emit.specs.Writing.{link_of, link_rule_in, is_rule_of};
 
 use crate::links::{HeadVars, Link, LinkRule, LinkRules, Links};
 use crate::text::links_text;
-use gm_text::{Items, Span};
-use query_terms::{Conjunct, Heads, Query, Rule};
+use gm_text::Items;
+use query_terms::{Conjunct, Heads, Query, Rule, part_of};
 use std::alloc::{AllocError, Global};
 
 /// The text of a query: a table for each of its terms, and a select for each of its rules.
@@ -79,13 +78,4 @@ fn link_of(conjunct: &Conjunct) -> Link
         term: conjunct.term,
         trg: u32::from(conjunct.trg),
     }
-}
-
-/// A part of the conjuncts.
-fn part_of(conjuncts: &[Conjunct], span: Span) -> &[Conjunct]
-    requires { lies (length conjuncts.now) span ≡ true }
-    ensures { result.now ≡ cut conjuncts.now span }
-{
-    let from = &conjuncts[span.first as usize..];
-    &from[..span.count as usize]
 }

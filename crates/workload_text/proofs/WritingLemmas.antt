@@ -1,17 +1,14 @@
 -- Texts of which a front has been appended: of parts joined by a byte, and of lines.
 use Rattle.std.proofs.Common.{◌≡◌, ℕ, ◌+◌, ◌<◌, ◌≤◌, Bool, true, false, ◌&&◌, decimal, codes, List, [], ◌∷◌, ◌++◌, length, map, take, drop, get_or, refl, sym, ap, subst, ◌∙◌, arith}
-use Rattle.std.specs.List.{join_with_byte, flat_map, list_all}
+use Rattle.std.specs.List.{join_with_byte, flat_map}
 use Rattle.std.proofs.lemmas.Bool.{ne_eqb}
 use Rattle.std.proofs.lemmas.Bool.Decides.{nat_tests}
 use Rattle.std.proofs.lemmas.Grind.{flat_map-append}
-use Rattle.std.proofs.lemmas.List.{append_assoc, append-nil, take_more, take-append-drop, map-append, length-map, length-take-le, take-map, drop-map}
+use Rattle.std.proofs.lemmas.List.{append_assoc, append-nil, take_more, take-append-drop, map-append, length-map, length-take-le, take-map}
 use Rattle.std.proofs.Math.Numerals.{add-one}
 use Rattle.std.proofs.lemmas.Simd.{map-map}
-use Rattle.std.proofs.lemmas.List.Elements.{All-take, All-drop}
-use Rattle.std.proofs.lemmas.List.Sums.{AllPass-from_list_all, list_all-from_AllPass}
 use Rattle.graph_text.specs.EdgesText.{AppendsPart}
 use Rattle.graph_text.proofs.PartLemmas.{AppendsPart-more, AppendsPart-after}
-use Rattle.gm_text.specs.declared.lists.Span.{Span}
 use Rattle.sel_algebra.specs.declared.vocabulary.Kind.{Kind}
 use Rattle.sel_algebra.specs.declared.vocabulary.Symbol.{Symbol}
 use Rattle.schema_graph.specs.declared.edge.SchemaEdge.{SchemaEdge}
@@ -21,6 +18,7 @@ use Rattle.query_terms.specs.declared.terms.Heads.{Heads}
 use Rattle.query_terms.specs.declared.terms.Rule.{Rule}
 use Rattle.query_terms.specs.Spans.{cut}
 use Rattle.query_terms.specs.Lists.{words_in, heads_in, is_heads}
+use Rattle.query_terms.proofs.SpanLemmas.{cut-map}
 use Rattle.workload_text.specs.declared.writing.Word.{Word}
 use Rattle.workload_text.specs.declared.writing.Word.TheVariants.{Variable}
 use Rattle.workload_text.specs.Lines.{WrittenSymbol, WorkLine, line_bytes, lines_text, written, symbol_word, path_word, union_word, expr_word, variable_word, head_lines, label_lines, type_lines, edge_line, rule_lines, conjunct_line}
@@ -140,20 +138,6 @@ expr_word-starred false words starred = cc
 pub and-true : (b : Bool) → b ≡ true → (b && true) ≡ true
 and-true b is = λ i. is i && true
 
--- ---- parts of lists
-
-pub list_all-cut : {X : Type 0} (p : X → Bool) (xs : List X) (part : Span) → list_all p xs ≡ true → list_all p (cut xs part) ≡ true
-list_all-cut p xs part all =
-    let P : _ → Type 0 = λ x. p x ≡ true in
-    list_all-from_AllPass p (cut xs part) (All-take P part.count (drop part.first xs) (All-drop P part.first xs (AllPass-from_list_all p xs all)))
-
-pub list_all-take : {X : Type 0} (p : X → Bool) (n : ℕ) (xs : List X) → list_all p xs ≡ true → list_all p (take n xs) ≡ true
-list_all-take p n xs all =
-    list_all-from_AllPass p (take n xs) (All-take (λ x. p x ≡ true) n xs (AllPass-from_list_all p xs all))
-
-cut-map : {X Y : Type 0} (f : X → Y) (xs : List X) (part : Span) → map f (cut xs part) ≡ cut (map f xs) part
-cut-map f xs part = sym (take-map f part.count (drop part.first xs)) ∙ ap (take part.count) (sym (drop-map f part.first xs))
-
 -- ---- lines
 
 pub lines_text-append : (xs ys : List WorkLine) → lines_text (xs ++ ys) ≡ lines_text xs ++ lines_text ys
@@ -169,7 +153,7 @@ pub conjunct-text : (q : Query) (c : Conjunct)
     ≡ lines_text (conjunct_line (conjunct_of q c) ∷ [])
 conjunct-text q c =
     ap (λ ws. join_with_byte 32 (variable_word (decimal c.src) ∷ expr_word c.star (map (map written) ws) ∷ variable_word (decimal c.trg) ∷ []) ++ 10 ∷ [])
-    (cut-map (cut q.symbols.now) q.words.now c.words)
+    (sym (cut-map (cut q.symbols.now) q.words.now c.words))
     ∙ sym (line-text (conjunct_line (conjunct_of q c)))
 
 -- the words of a rule's line
@@ -190,7 +174,7 @@ rule-words first (a ∷ b ∷ c ∷ d ∷ []) count four =
 -- a rule's line, and the lines of its conjuncts
 rule_of-lines : (q : Query) (r : Rule)
     → rule_lines (rule_of q r) ≡ RuleLine (map decimal (heads_in r.heads)) ∷ conjuncts_lines q (cut q.conjuncts.now r.conjuncts)
-rule_of-lines q r = ap (λ cs. RuleLine (map decimal (heads_in r.heads)) ∷ map conjunct_line cs) (sym (cut-map (conjunct_of q) q.conjuncts.now r.conjuncts))
+rule_of-lines q r = ap (λ cs. RuleLine (map decimal (heads_in r.heads)) ∷ map conjunct_line cs) (cut-map (conjunct_of q) q.conjuncts.now r.conjuncts)
 
 has_four : (h : Heads) → is_heads h ≡ true → length h.vars ≡ 4
 has_four h is = grind (arith, nat_tests)

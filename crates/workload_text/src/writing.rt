@@ -3,7 +3,7 @@
 ghost use Rattle.std.specs.Prelude.{◌≡◌, ◌++◌, ◌∷◌, [], true, map, length, decimal, OnOk, OnErr};
 ghost use Rattle.std.specs.List.{list_all, join_with_byte};
 ghost use Rattle.graph_text.specs.EdgesText.{AppendsPart};
-ghost use Rattle.query_terms.specs.Spans.{cut, lies};
+ghost use Rattle.query_terms.specs.Spans.{lies};
 ghost use Rattle.query_terms.specs.Lists.{is_heads, words_in};
 ghost use Rattle.query_terms.specs.View.{query_value};
 ghost use Rattle.workload_text.specs.Lines.{head_lines, query_lines, label_lines, type_lines, edge_line, rule_lines, conjunct_line, lines_text, written, path_word, union_word, expr_word, symbol_word, format_word};
@@ -14,7 +14,7 @@ use crate::fixed::{class_or_none, kind_word, op_word, shape_word};
 use crate::head::WorkHead;
 use gm_text::{Name, Span};
 use itoa::Buffer;
-use query_terms::{Conjunct, Query, Rule};
+use query_terms::{Conjunct, Query, Rule, part_of};
 use schema_graph::Schema;
 use sel_algebra::{Kind, Symbol};
 use std::alloc::{AllocError, Global};
@@ -195,7 +195,7 @@ fn write_rule(
         Word::Variable(vars[3]),
     ];
     write_line(alloc, out, &words[..rule.heads.count as usize + 1])?;
-    write_conjuncts(alloc, out, query, cut(query.conjuncts, rule.conjuncts))
+    write_conjuncts(alloc, out, query, part_of(query.conjuncts, rule.conjuncts))
 }
 
 /// Appends the lines of conjuncts.
@@ -231,7 +231,7 @@ fn write_conjunct(
         Word::Union(
             conjunct.star,
             query.symbols,
-            cut(query.words, conjunct.words),
+            part_of(query.words, conjunct.words),
         ),
         Word::Variable(conjunct.trg),
     ];
@@ -336,7 +336,7 @@ fn write_union(
 {
     for i in 0..words.len() {
         write_gap(out, b'+', i)?;
-        write_path(alloc, out, cut(symbols, words[i]))?;
+        write_path(alloc, out, part_of(symbols, words[i]))?;
     }
     Ok(())
 }
@@ -371,12 +371,4 @@ fn write_mark(out: &mut Vec<u8>, back: bool) -> Result<(), AllocError>
         out.push(b'^')?;
     }
     Ok(())
-}
-
-/// The items of a part.
-fn cut<T>(items: &[T], part: Span) -> &[T]
-    requires { lies (length items.now) part ≡ true }
-    ensures { result.now ≡ cut items.now part }
-{
-    &items[part.first as usize..][..part.count as usize]
 }

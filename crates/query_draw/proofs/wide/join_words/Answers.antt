@@ -34,7 +34,7 @@ loop-span-init c =
 pub follow_word-requires-clause-edges : goal.follow_word-requires-clause-edges
 follow_word-requires-clause-edges c =
     let n = length c.args.schema.now.edges in
-    subst (λ word. list_all (has_edge n) word ≡ true) (sym c.cut.ensures)
+    subst (λ word. list_all (has_edge n) word ≡ true) (sym c.part_of.ensures)
     (word_edges n c.args.query.now.symbols.now c.args.words.now c.loop-span.span-index _ c.requires.edges c.loop-span-test.true)
 
 pub loop-span-preserved : goal.loop-span-preserved
@@ -50,11 +50,11 @@ loop-span-preserved c =
     let new = c.join.new.self in
     let t = fold (plus_word g) (zero_of g.kinds) (words_in symbols (take i words)) in
     let same : t.kinds ≡ g.kinds = union_kinds g (zero_of g.kinds) (words_in symbols (take i words)) in
-    let w = word_matrix g c.cut.result.now in
+    let w = word_matrix g c.part_of.result.now in
     let first : AreColumns n work.union (entry t) = subst (λ cs. AreColumns n cs (entry t)) (sym follows.union) kept.join in
     let joins = AreColumns-joined n work.union work.word new (entry t) (entry w) first follows.word (subst (AreJoined work.union work.word new) first.whole c.join.ensures) in
     let sum : AreColumns n new (entry (plus_of t w)) = AreColumns-same n new _ (entry (plus_of t w)) (λ i j p q. sym (entry-plus_of t w i j (rw same p) (rw same q))) joins in
-    let more = union_more g symbols t w (plus_of t w) words i _ c.loop-span-test.true refl (ap (word_matrix g) c.cut.ensures) refl in
+    let more = union_more g symbols t w (plus_of t w) words i _ c.loop-span-test.true refl (ap (word_matrix g) c.part_of.ensures) refl in
     record {
       join = subst (λ m. AreColumns n new (entry m)) more sum;
       work = record {

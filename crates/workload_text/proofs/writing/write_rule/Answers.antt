@@ -6,7 +6,8 @@ use Rattle.graph_text.proofs.PartLemmas.{OnErr-from, AppendsPart-more, AppendsPa
 use Rattle.query_terms.specs.Spans.{lies, cut}
 use Rattle.workload_text.specs.Lines.{lines_text}
 use Rattle.workload_text.specs.Writing.{conjuncts_lines}
-use Rattle.workload_text.proofs.WritingLemmas.{list_all-cut, rule-text, appended-two}
+use Rattle.query_terms.proofs.SpanLemmas.{passes_cut}
+use Rattle.workload_text.proofs.WritingLemmas.{rule-text, appended-two}
 use Rattle.workload_text.proofs.writing.write_rule.Goals as goal
 
 pub returns-in_err-write_line-clause-err : goal.returns-in_err-write_line-clause-err
@@ -17,18 +18,18 @@ returns-in_err-write_line-clause-err c =
 
 pub write_conjuncts-requires : goal.write_conjuncts-requires
 write_conjuncts-requires c =
-    rw c.cut.ensures (list_all-cut _ c.args.query.now.conjuncts.now c.args.rule.now.conjuncts
+    rw c.part_of.ensures (passes_cut _ c.args.query.now.conjuncts.now c.args.rule.now.conjuncts
     (sym (list_all-map (lies _) (λ k. k.words) c.args.query.now.conjuncts.now) ∙ c.args.query.now.conjuncts_lie))
 
 pub returns-clause-ok : goal.returns-clause-ok
 returns-clause-ok c =
     on_ok_weaker c.write_conjuncts.result
     (λ put. appended-two _ _ _ _ _ _ c.in_ok-write_line.ensures.ok put (rule-text c.args.query.now c.args.rule.now _ c.requires.heads refl))
-    (rw c.cut.ensures at c.write_conjuncts.ensures.ok)
+    (rw c.part_of.ensures at c.write_conjuncts.ensures.ok)
 
 pub returns-clause-err : goal.returns-clause-err
 returns-clause-err c =
     on_err_weaker c.write_conjuncts.result
     (λ part. subst (AppendsPart c.args.out.now.items c.write_conjuncts.new.out.items) (rule-text c.args.query.now c.args.rule.now _ c.requires.heads refl)
     (AppendsPart-after _ _ _ _ _ c.in_ok-write_line.ensures.ok part))
-    (rw c.cut.ensures at c.write_conjuncts.ensures.err)
+    (rw c.part_of.ensures at c.write_conjuncts.ensures.err)

@@ -13,9 +13,9 @@ pub returns-in_err-write_path-clause-err : goal.returns-in_err-write_path-clause
 returns-in_err-write_path-clause-err c =
     OnErr-from c.from_residual-in_err-write_path.result
     (joined-item _ (Parts-words c.args.symbols.now) 43 c.args.words.now c.loop-i.i _ c.loop-i-test.true _ refl _ _ c.loop-i.invariant _ _
-    c.in_ok-write_gap.ensures.ok (rw c.cut.ensures at c.in_err-write_path.ensures.err))
+    c.in_ok-write_gap.ensures.ok (rw c.part_of.ensures at c.in_err-write_path.ensures.err))
 
 pub loop-i-preserved : goal.loop-i-preserved
 loop-i-preserved c =
     joined-step _ (Parts-words c.args.symbols.now) 43 c.args.words.now c.loop-i.i _ c.loop-i-test.true _ refl _ _ c.loop-i.invariant _ _
-    c.in_ok-write_gap.ensures.ok (rw c.cut.ensures at c.in_ok-write_path.ensures.ok)
+    c.in_ok-write_gap.ensures.ok (rw c.part_of.ensures at c.in_ok-write_path.ensures.ok)
