@@ -63,3 +63,7 @@ pub IsMatching-from_nodes : (outs ins : Stubs) (label own wanted : ℕ) (sources
     → AreFirstByRank ins wanted targets → IsMatching outs ins label (edges_between own sources targets)
 IsMatching-from_nodes outs ins label own wanted sources targets same is first second =
     subst (λ n. IsMatching outs ins n (edges_between own sources targets)) same (IsMatching-edges_between outs ins own wanted sources targets is first second)
+
+-- there are as many edges as nodes in the shorter list
+pub length-edges_between : (label : ℕ) (sources targets : List ℕ) → length (edges_between label sources targets) ≡ min (length sources) (length targets)
+length-edges_between label sources targets = length-map (zip sources targets) (edge_between label) ∙ length-zip sources targets

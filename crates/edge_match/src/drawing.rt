@@ -4,7 +4,7 @@ ghost use Rattle.std.specs.Prelude.{◌≡◌, ◌<◌, ◌≤◌, ℕ, false, t
 ghost use Rattle.gm_config.specs.Limits.{nodes_most};
 ghost use Rattle.edge_match.specs.ConfigSides.{opposite, is_free};
 ghost use Rattle.edge_match.specs.declared.errors.TooManyStubs.{TooManyStubs};
-ghost use Rattle.edge_match.specs.DrawnDegrees.{degrees_by, side_table, table_degrees, table_total, side_degrees, side_total, smaller_total};
+ghost use Rattle.edge_match.specs.DrawnDegrees.{degrees_by, side_table, table_degrees, table_total, side_degrees, side_total};
 ghost use Rattle.edge_match.specs.StubLimit.{stubs_most};
 ghost use Rattle.edge_match.specs.Limit.{too_many, side_over, first_side_over, IsWithinLimit, IsFirstOver};
 
@@ -36,43 +36,6 @@ pub fn side_total(
 {
     let table = table_at(alloc, config, c, side)?;
     Ok(total_from(config, &table, seed, c, side))
-}
-
-/// The number of edges of a constraint: the smaller of the numbers of stubs of its two sides. `c` is the number of the
-/// constraint. It fails only where memory runs out.
-pub fn smaller_total(alloc: Global, config: &Config, seed: u64, c: u8) -> Result<u64, AllocError>
-    requires known { c < length config.now.constraints }
-    ensures { IfOk result (λ total. total ≡ smaller_total config.now seed c) }
-{
-    if is_free(config, c, Side::Out) {
-        return free_total(alloc, config, seed, c, Side::Out);
-    }
-    if is_free(config, c, Side::In) {
-        return free_total(alloc, config, seed, c, Side::In);
-    }
-    let outs = side_total(alloc, config, seed, c, Side::Out)?;
-    let ins = side_total(alloc, config, seed, c, Side::In)?;
-    Ok(outs.min(ins))
-}
-
-/// The number of stubs of a free side: as many as those of the other side, or none where it has no node. So it is never
-/// the greater of the two.
-fn free_total(
-    alloc: Global,
-    config: &Config,
-    seed: u64,
-    c: u8,
-    side: Side,
-) -> Result<u64, AllocError>
-    requires known { c < length config.now.constraints }
-    requires free { is_free config.now c side ≡ true }
-    requires drawn { is_free config.now c (opposite side) ≡ false }
-    ensures { IfOk result (λ total. total ≡ smaller_total config.now seed c) }
-{
-    if count_of(config, c, side) == 0 {
-        return Ok(0);
-    }
-    side_total(alloc, config, seed, c, side.opposite())
 }
 
 /// The first side that is not free and whose total is above 4,194,304, by constraint, and out before in.

@@ -70,6 +70,14 @@ impl EdgeStream {
         })
     }
 
+    /// The number of edges that are still to come.
+    pub fn len(&self) -> usize
+        ensures { result ≡ length self.now }
+    {
+        let ends = self.sources.len().min(self.targets.len());
+        ends.saturating_sub(self.next)
+    }
+
     /// The next edge. None comes exactly after the last.
     pub fn next_edge(&mut self) -> Option<Triple>
         ensures edge { MatchOption result (self.old ≡ []) (λ edge. self.old ≡ edge ∷ self.new) }

@@ -13,6 +13,6 @@ mod sides;
 mod stubs;
 
 pub use config_sides::{Side, is_free};
-pub use drawing::{Degrees, first_over, side_degrees, side_total, smaller_total};
+pub use drawing::{Degrees, first_over, side_degrees, side_total};
 pub use edge_stream::{EdgeStream, match_edges};
 pub use errors::{MatchError, TooManyStubs};

@@ -1,8 +1,10 @@
 //! `generate`: from a configuration to its files.
 
-ghost use Rattle.std.specs.Prelude.{◌≡◌, ◌≢◌, [], false, Err};
+ghost use Rattle.std.specs.Prelude.{◌≡◌, ◌≢◌, [], false, length, Err};
 ghost use Rattle.std.specs.Prelude.{IfOk, IfErr, OnOk, OnErr, IsErrOf, IsTrue};
 ghost use Rattle.gm_io.specs.Count.{Rose};
+ghost use Rattle.summary_text.specs.Summary.{nothing_counted};
+ghost use Rattle.summary_text.specs.Counts.{drawn_summary};
 ghost use Rattle.gm_top.specs.declared.commands.Command.TheVariants.{Generate};
 ghost use Rattle.gm_top.specs.declared.work.Work.TheVariants.{Files};
 ghost use Rattle.gm_top.specs.Generation.{IsAcceptedFor};
@@ -24,6 +26,7 @@ use gm_files::Pieces;
 use gm_io::Folder;
 use query_draw::first_missing;
 use std::alloc::{AllocError, Global};
+use summary_text::Summary;
 
 /// Decides what is to be done with a configuration. It makes no file.
 pub(crate) fn decided<'a>(alloc: Global, seed: u64, bytes: &[u8]) -> Result<Work<'a>, Outcome>
@@ -54,17 +57,21 @@ fn refusal_of(alloc: Global, generation: &Generation) -> Result<Option<Outcome>,
     }
 }
 
-/// Writes the files of a configuration, and keeps its queries.
+/// Writes the files of a configuration, counts the edges of each constraint, and keeps the queries.
 pub(crate) fn written<F: Folder>(
     alloc: Global,
     generation: &Generation,
+    counted: &mut Summary,
     outlines: &mut Outlines<'_>,
     folder: &mut F,
 ) -> Result<(), Outcome>
+    requires nothing { counted.old ≡ nothing_counted }
     requires none { outlines.old ≡ [] }
     requires accepted { IsAcceptedFor generation.now.config generation.now.seed }
     requires finished { F.unfinished folder.old ≡ false }
     ensures files { OnOk result (MakesFiles (outputs_of (Files generation.now)) (F.files folder.old) (F.files folder.new)) }
+    ensures counted { OnOk result (counted.new ≡ drawn_summary generation.now.config generation.now.seed
+        (length generation.now.config.constraints) []) }
     ensures kept { OnOk result (outlines.new ≡ queries_of generation.now.config generation.now.seed) }
     ensures finished { OnOk result (F.unfinished folder.new ≡ false) }
     ensures part { OnErr result (MakesPart (outputs_of (Files generation.now)) (F.files folder.old) (F.files folder.new)) }
@@ -80,6 +87,7 @@ pub(crate) fn written<F: Folder>(
         alloc,
         generation.config(),
         generation.seed(),
+        counted,
         &mut pieces,
         folder,
     )?;

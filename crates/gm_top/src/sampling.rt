@@ -1,10 +1,9 @@
 //! `sample`: the files of the sample, and a summary of them.
 
-ghost use Rattle.std.specs.Prelude.{◌≡◌, ◌≢◌, ◌≤◌, ◌^◌, [], ◌∷◌, false, length, Err, IfOk, IfErr, OnOk, OnErr, IsErrOf, IsTrue};
+ghost use Rattle.std.specs.Prelude.{◌≡◌, ◌≢◌, ◌≤◌, [], ◌∷◌, false, length, Err, IfOk, IfErr, OnOk, OnErr, IsErrOf, IsTrue};
 ghost use Rattle.gm_io.specs.Count.{Rose};
 ghost use Rattle.gm_config.specs.Config.{IsConfig};
-ghost use Rattle.edge_match.specs.Limit.{IsWithinLimit};
-ghost use Rattle.summary_text.specs.Summary.{HasRoom, summary_text_of};
+ghost use Rattle.summary_text.specs.Summary.{nothing_counted, HasRoom, summary_text_of};
 ghost use Rattle.summary_text.specs.Counts.{drawn_summary};
 ghost use Rattle.summary_text.specs.Laws.{with_class_of};
 ghost use Rattle.gm_top.specs.declared.commands.Command.TheVariants.{Sample};
@@ -20,12 +19,11 @@ use crate::generation::Generation;
 use crate::outcomes::Outcome;
 use crate::outlines::Outlines;
 use crate::work::Work;
-use edge_match::smaller_total;
-use gm_config::{Config, sample_config};
+use gm_config::sample_config;
 use gm_files::put_file;
 use gm_io::Folder;
 use sel_algebra::Class;
-use std::alloc::Global;
+use std::alloc::{AllocError, Global};
 use summary_text::{Summary, write_summary};
 
 /// The work of the sample of 1,000 times `k` nodes. It makes no file, and only memory can be wanting.
@@ -44,9 +42,11 @@ pub(crate) fn decided<'a>(alloc: Global, k: u32) -> Result<Work<'a>, Outcome>
 pub(crate) fn written<F: Folder>(
     alloc: Global,
     generation: &Generation,
+    counted: &mut Summary,
     outlines: &mut Outlines<'_>,
     folder: &mut F,
 ) -> Result<(), Outcome>
+    requires nothing { counted.old ≡ nothing_counted }
     requires none { outlines.old ≡ [] }
     requires accepted { IsAcceptedFor generation.now.config generation.now.seed }
     requires finished { F.unfinished folder.old ≡ false }
@@ -60,18 +60,21 @@ pub(crate) fn written<F: Folder>(
     ensures fault { IsErrOf result Outcome.WriteFault → Rose (F.faults folder.old) (F.faults folder.new) }
     ensures faults { ¬ IsErrOf result Outcome.WriteFault → F.faults folder.new ≡ F.faults folder.old }
 {
-    generating::written(alloc, generation, outlines, folder)?;
-    put_summary(alloc, generation, outlines, folder)?;
+    generating::written(alloc, generation, counted, outlines, folder)?;
+    put_summary(alloc, generation, counted, outlines, folder)?;
     Ok(())
 }
 
-/// Writes the file of the summary.
+/// Writes the file of the summary, whose constraints are counted.
 fn put_summary<F: Folder>(
     alloc: Global,
     generation: &Generation,
+    counted: &mut Summary,
     outlines: &Outlines<'_>,
     folder: &mut F,
 ) -> Result<(), Outcome>
+    requires constraints { counted.old ≡ drawn_summary generation.now.config generation.now.seed
+        (length generation.now.config.constraints) [] }
     requires kept { outlines.now ≡ queries_of generation.now.config generation.now.seed }
     requires accepted { IsAcceptedFor generation.now.config generation.now.seed }
     requires finished { F.unfinished folder.old ≡ false }
@@ -88,64 +91,29 @@ fn put_summary<F: Folder>(
     ensures fault { IsErrOf result Outcome.WriteFault → Rose (F.faults folder.old) (F.faults folder.new) }
     ensures faults { ¬ IsErrOf result Outcome.WriteFault → F.faults folder.new ≡ F.faults folder.old }
 {
-    let text = summary_text(alloc, generation, outlines)?;
+    let text = summary_text(alloc, generation, counted, outlines)?;
     put_file(folder, "summary.txt", &text)?;
     Ok(())
 }
 
-/// The text of the summary.
+/// The text of the summary: counts the queries of each class beside the edges of each constraint.
 fn summary_text(
     alloc: Global,
     generation: &Generation,
-    outlines: &Outlines<'_>,
-) -> Result<Vec<u8>, Outcome>
-    requires kept { outlines.now ≡ queries_of generation.now.config generation.now.seed }
-    requires accepted { IsAcceptedFor generation.now.config generation.now.seed }
-    ensures text { IfOk result (λ text. text.items ≡ summary_text_of (drawn_summary generation.now.config generation.now.seed
-        (length generation.now.config.constraints) (queries_of generation.now.config generation.now.seed))) }
-    ensures stops { IfErr result (λ outcome. outcome ≡ Outcome.NoMemory) }
-{
-    let counted = counted(alloc, generation, outlines)?;
-    let mut text = Vec::new(alloc);
-    write_summary(alloc, &mut text, &counted)?;
-    Ok(text)
-}
-
-/// Counts the edges of each constraint, and the queries of each class.
-fn counted(
-    alloc: Global,
-    generation: &Generation,
-    outlines: &Outlines<'_>,
-) -> Result<Summary, Outcome>
-    requires kept { outlines.now ≡ queries_of generation.now.config generation.now.seed }
-    requires accepted { IsAcceptedFor generation.now.config generation.now.seed }
-    ensures counted { IfOk result (λ counted. counted ≡ drawn_summary generation.now.config generation.now.seed
-        (length generation.now.config.constraints) (queries_of generation.now.config generation.now.seed)) }
-    ensures stops { IfErr result (λ outcome. outcome ≡ Outcome.NoMemory) }
-{
-    let mut counted = Summary::new(alloc);
-    count_constraints(alloc, generation.config(), generation.seed(), &mut counted)?;
-    count_queries(generation, outlines, &mut counted);
-    Ok(counted)
-}
-
-/// Counts the edges of each constraint.
-fn count_constraints(
-    alloc: Global,
-    config: &Config,
-    seed: u64,
     counted: &mut Summary,
-) -> Result<(), Outcome>
-    requires rules { IsConfig config.now }
-    requires within { IsWithinLimit config.now seed }
-    requires nothing { counted.old ≡ drawn_summary config.now seed 0 [] }
-    ensures counted { OnOk result (counted.new ≡ drawn_summary config.now seed (length config.now.constraints) []) }
-    ensures stops { IfErr result (λ outcome. outcome ≡ Outcome.NoMemory) }
+    outlines: &Outlines<'_>,
+) -> Result<Vec<u8>, AllocError>
+    requires constraints { counted.old ≡ drawn_summary generation.now.config generation.now.seed
+        (length generation.now.config.constraints) [] }
+    requires kept { outlines.now ≡ queries_of generation.now.config generation.now.seed }
+    requires accepted { IsAcceptedFor generation.now.config generation.now.seed }
+    ensures { IfOk result (λ text. text.items ≡ summary_text_of (drawn_summary generation.now.config generation.now.seed
+        (length generation.now.config.constraints) (queries_of generation.now.config generation.now.seed))) }
 {
-    for c in 0..config.constraint_count() {
-        counted.add_constraint(alloc, smaller_total(alloc, config, seed, c)?)?;
-    }
-    Ok(())
+    count_queries(generation, outlines, counted);
+    let mut text = Vec::new(alloc);
+    write_summary(alloc, &mut text, counted)?;
+    Ok(text)
 }
 
 /// Counts the drawn queries of each class.

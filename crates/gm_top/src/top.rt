@@ -19,6 +19,7 @@ use crate::{generating, sampling, translating};
 use gm_io::{Folder, Source, read_all};
 use gm_text::Arena;
 use std::alloc::Global;
+use summary_text::Summary;
 
 /// Runs the program on the words of its command line, a source for its input and a folder for its files.
 ///
@@ -126,7 +127,7 @@ fn decided<'a, S: Source>(
     }
 }
 
-/// Writes the files of a work. Queries that are drawn are kept in the arena.
+/// Writes the files of a work. Edges are counted as they are written, and queries that are drawn are kept in the arena.
 fn written<F: Folder>(
     alloc: Global,
     work: &Work<'_>,
@@ -144,10 +145,23 @@ fn written<F: Folder>(
     ensures fault { IsErrOf result Outcome.WriteFault → Rose (F.faults folder.old) (F.faults folder.new) }
     ensures faults { ¬ IsErrOf result Outcome.WriteFault → F.faults folder.new ≡ F.faults folder.old }
 {
+    let mut counted = Summary::new(alloc);
     let mut outlines = Outlines::new(alloc, arena);
     match work {
         Work::Queries(work) => translating::written(alloc, work, folder),
-        Work::Files(generation) => generating::written(alloc, generation, &mut outlines, folder),
-        Work::Sampled(generation) => sampling::written(alloc, generation, &mut outlines, folder),
+        Work::Files(generation) => generating::written(
+            alloc,
+            generation,
+            &mut counted,
+            &mut outlines,
+            folder,
+        ),
+        Work::Sampled(generation) => sampling::written(
+            alloc,
+            generation,
+            &mut counted,
+            &mut outlines,
+            folder,
+        ),
     }
 }

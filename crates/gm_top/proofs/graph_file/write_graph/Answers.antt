@@ -1,6 +1,7 @@
-use Rattle.std.proofs.Common.{◌≡◌, ◌++◌, ◌+◌, ℕ, List, [], length, refl, sym, subst, arith, rules}
+use Rattle.std.proofs.Common.{◌≡◌, ◌∙◌, ◌++◌, ◌+◌, ℕ, List, [], length, refl, ap, sym, subst, arith, rules}
 use Rattle.std.proofs.lemmas.List.{length-append}
 use Rattle.gm_files.proofs.Gains.{Gained-write, Gained-nil, Gained-append}
+use Rattle.summary_text.specs.Counts.{drawn_summary}
 use Rattle.gm_top.specs.Putting.{AreLinesBefore}
 use Rattle.gm_top.proofs.PutLemmas.{PutsPart-write, Gained-Puts, CallsToPut-none, CallsToPut-more}
 use Rattle.gm_top.proofs.GraphLemmas.{OnErr-all, AreLinesBefore-none, AreLinesBefore-more, graph-whole, part-none, part-kept, part-lines, part-whole}
@@ -20,6 +21,7 @@ loop-c-init g c = record {
     c.in_ok-create.ensures.files,
     rw (c.in_ok-create.ensures.calls, c.requires.empty) (CallsToPut-none _ [] (omega arith)),
   );
+  counted = c.requires.nothing;
   unfinished = search rules;
   no_fault = search rules;
 }
@@ -45,6 +47,7 @@ loop-c-preserved g c =
         now.2,
         CallsToPut-more _ _ _ [] _ _ (lines.0 ++ c.loop-c.pieces) put.0 _ lines.3 put.3 now.1,
       );
+      counted = c.in_ok-put_edges.ensures.counted;
       unfinished = search rules;
       no_fault = search rules;
     }
@@ -116,3 +119,10 @@ returns-clause-calls g c =
     let text = subst (λ (n : ℕ). AreLinesBefore c.args.config.now c.args.seed n (lines.0 ++ c.loop-c.pieces)) all lines.1 in
     calls-whole c.args.config.now c.args.seed _ _ (lines.0 ++ c.loop-c.pieces) text
     (omega (arith, c.in_ok-finish.ensures.calls, c.in_ok-flush.ensures.calls, lines.3.each_piece, lines.3.kept))
+
+-- ---- the edges
+
+pub returns-clause-counted : goal.returns-clause-counted
+returns-clause-counted g c =
+    let all : c.loop-c.c ≡ length c.args.config.now.constraints = omega arith in
+    c.loop-c.invariant.counted ∙ ap (λ n. drawn_summary c.args.config.now c.args.seed n []) all

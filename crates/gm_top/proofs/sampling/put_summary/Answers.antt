@@ -19,25 +19,25 @@ returns-in_err-text-clause-part_calls g c =
 pub returns-in_err-put_file-clause-part : goal.returns-in_err-put_file-clause-part
 returns-in_err-put_file-clause-part g c =
     let own = c.args.generation.now in
-    let text = c.deref.ensures.value ∙ c.in_ok-text.ensures.text in
+    let text = c.deref.ensures.value ∙ c.in_ok-text.ensures in
     OnErr-all c.from_residual-in_err-put_file.result _
     (MakesPart-one (summary own.config own.seed) _ _ _ (summary-counted own.config own.seed _ c.requires.accepted text) c.in_err-put_file.ensures.part)
 
 pub returns-in_err-put_file-clause-part_calls : goal.returns-in_err-put_file-clause-part_calls
 returns-in_err-put_file-clause-part_calls g c =
     let own = c.args.generation.now in
-    let text = c.deref.ensures.value ∙ c.in_ok-text.ensures.text in
+    let text = c.deref.ensures.value ∙ c.in_ok-text.ensures in
     OnErr-all c.from_residual-in_err-put_file.result _
     (TakesCallsWithin-one (summary own.config own.seed) _ _ _ (summary-counted own.config own.seed _ c.requires.accepted text) c.in_err-put_file.ensures.calls_within)
 
 pub returns-clause-files : goal.returns-clause-files
 returns-clause-files g c =
     let own = c.args.generation.now in
-    let text = c.deref.ensures.value ∙ c.in_ok-text.ensures.text in
+    let text = c.deref.ensures.value ∙ c.in_ok-text.ensures in
     MakesFiles-one (summary own.config own.seed) _ _ _ (summary-counted own.config own.seed _ c.requires.accepted text) c.in_ok-put_file.ensures.gained
 
 pub returns-clause-calls : goal.returns-clause-calls
 returns-clause-calls g c =
     let own = c.args.generation.now in
-    let text = c.deref.ensures.value ∙ c.in_ok-text.ensures.text in
+    let text = c.deref.ensures.value ∙ c.in_ok-text.ensures in
     TakesCalls-one (summary own.config own.seed) _ _ _ (summary-counted own.config own.seed _ c.requires.accepted text) c.in_ok-put_file.ensures.calls
