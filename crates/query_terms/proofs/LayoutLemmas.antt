@@ -1,5 +1,6 @@
 -- Conjuncts and rules, laid one after the other.
 use Rattle.std.proofs.Common.{◌≡◌, ℕ, ◌-◌, ◌<◌, ◌≤◌, true, List, [], ◌∷◌, ◌++◌, length, map, take, drop, refl, sym, ap, ◌∙◌, arith}
+use Rattle.std.proofs.lemmas.Bool.{and_parts}
 use Rattle.std.proofs.lemmas.List.{map-append, take-append-le, drop-append-le, length-append, length-drop, take_rest, length-map}
 use Rattle.std.proofs.lemmas.List.Folds.{list_all-append}
 use Rattle.std.proofs.Math.Seq.{drop-length}
@@ -14,19 +15,19 @@ use Rattle.query_terms.specs.Spans.{cut, lies, covers}
 use Rattle.query_terms.specs.Lists.{heads_in, is_heads, words_in, conjunct_in, rule_in}
 use Rattle.query_terms.specs.Layout.{WordsValue, layout_value, with_conjunct, with_rule, IsLaid, AreWords, AreLists}
 use Rattle.query_terms.specs.Building.{symbols_most}
-use Rattle.query_terms.proofs.SpanLemmas.{both, and_true, cut_same, covers-lie, covers-push}
+use Rattle.query_terms.proofs.SpanLemmas.{and_true, cut_same, covers-lie, covers-push}
 
 conjuncts_same : (V W : List (List Symbol)) (n : ℕ) (cs : List Conjunct) → take n V ≡ take n W → list_all (lies n) (map (λ c. c.words) cs) ≡ true
     → map (conjunct_in V) cs ≡ map (conjunct_in W) cs
 conjuncts_same V W n [] same lie = refl
 conjuncts_same V W n (c ∷ cs) same lie =
-    λ i. record { src = c.src; trg = c.trg; star = c.star; words = cut_same V W n c.words same (both _ _ lie).0 i } ∷ conjuncts_same V W n cs same (both _ _ lie).1 i
+    λ i. record { src = c.src; trg = c.trg; star = c.star; words = cut_same V W n c.words same (and_parts _ _ lie).0 i } ∷ conjuncts_same V W n cs same (and_parts _ _ lie).1 i
 
 rules_same : (V W : List ConjunctValue) (n : ℕ) (rs : List Rule) → take n V ≡ take n W → list_all (lies n) (map (λ r. r.conjuncts) rs) ≡ true
     → map (rule_in V) rs ≡ map (rule_in W) rs
 rules_same V W n [] same lie = refl
 rules_same V W n (r ∷ rs) same lie =
-    λ i. record { heads = heads_in r.heads; conjuncts = cut_same V W n r.conjuncts same (both _ _ lie).0 i } ∷ rules_same V W n rs same (both _ _ lie).1 i
+    λ i. record { heads = heads_in r.heads; conjuncts = cut_same V W n r.conjuncts same (and_parts _ _ lie).0 i } ∷ rules_same V W n rs same (and_parts _ _ lie).1 i
 
 module _ (W : WordsValue) (cs : List Conjunct) (rs : List Rule) (fw fc : ℕ) (is : IsLaid W cs rs fw fc) where
   abbrev values : List ConjunctValue

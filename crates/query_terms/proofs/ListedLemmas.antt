@@ -1,6 +1,6 @@
 -- Terms in a list that is small: each code stands for its term, also where more terms follow.
 use Rattle.std.proofs.Common.{◌≡◌, ℕ, zero, suc, ◌+◌, ◌-◌, ◌<◌, ◌≤◌, true, false, if◌then◌else◌, List, [], ◌∷◌, ◌++◌, length, slice_get, get_or, Some, refl, sym, ap, ◌∙◌, true≢false, arith, inl, inr}
-use Rattle.std.proofs.lemmas.Bool.{cases_Bool, lt-ltb, ltb-true, ltb-false, le-ltb}
+use Rattle.std.proofs.lemmas.Bool.{and_parts, cases_Bool, lt-ltb, ltb-true, ltb-false, le-ltb}
 use Rattle.std.proofs.lemmas.List.{get_or_push, get_or_append_left, length-append}
 use Rattle.std.proofs.lemmas.Option.{slice_get-get_or, get_or_from_slice_get}
 use Rattle.std.proofs.lemmas.List.Folds.{list_all-append, list_all_at}
@@ -9,7 +9,7 @@ use Rattle.std.specs.List.{list_all}
 use Rattle.query_terms.specs.declared.terms.Term.{Term}
 use Rattle.query_terms.specs.declared.terms.Term.TheVariants.{Step, Seq}
 use Rattle.query_terms.specs.Listed.{others_from, told, decoded, tells}
-use Rattle.query_terms.proofs.SpanLemmas.{both, and_true, list_all_more}
+use Rattle.query_terms.proofs.SpanLemmas.{and_true, list_all_more}
 
 tells-more : (count code : ℕ) → tells count code ≡ true → tells (count + 1) code ≡ true
 tells-more count code h = lt-ltb code (others_from + (count + 1)) (omega (arith, ltb-true code (others_from + count) h))
@@ -37,7 +37,7 @@ told-more others x n code h = elim (cases_Bool (nat_lt code others_from)) [
 pub decoded_more : (others : List Term) (x : Term) (n : ℕ) (codes : List ℕ) → list_all (tells (length others)) codes ≡ true → decoded (others ++ x ∷ []) n codes ≡ decoded others n codes
 decoded_more others x n [] all = refl
 decoded_more others x n (c ∷ codes) all =
-    let h = both (tells (length others) c) (list_all (tells (length others)) codes) all in
+    let h = and_parts (tells (length others) c) (list_all (tells (length others)) codes) all in
     λ i. told-more others x n c h.0 i ∷ decoded_more others x (n + 1) codes h.1 i
 
 -- the last code tells the last term

@@ -1,6 +1,6 @@
 -- The terms of a query are numbered from its lists.
 use Rattle.std.proofs.Common.{◌≡◌, ℕ, ◌+◌, ◌<◌, true, List, [], ◌∷◌, ◌++◌, length, take, None, is_some, fold, refl, sym, ap, subst, ◌∙◌, append_assoc, append-nil, arith}
-use Rattle.std.proofs.lemmas.Bool.{ltb-true}
+use Rattle.std.proofs.lemmas.Bool.{and_parts, ltb-true}
 use Rattle.std.specs.List.{list_all, slice_index_or}
 use Rattle.gm_text.specs.declared.lists.Span.{Span}
 use Rattle.sel_algebra.specs.declared.vocabulary.Symbol.{Symbol}
@@ -12,7 +12,7 @@ use Rattle.query_terms.specs.Underway.{Underway, underway, underway_from, with_c
 use Rattle.query_terms.specs.Outline.{after_symbol, after_word, after_conjunct, after_conjuncts}
 use Rattle.query_terms.specs.Lists.{words_in, conjunct_in, conjuncts_in}
 use Rattle.query_terms.specs.Spans.{cut}
-use Rattle.query_terms.proofs.SpanLemmas.{both, passes_mapped, fold_map_more, cut-map}
+use Rattle.query_terms.proofs.SpanLemmas.{passes_mapped, fold_map_more, cut-map}
 use Rattle.query_terms.proofs.TiedLemmas.{step-underway, choice-step, closed-step, numbered-push}
 
 module _ (labels : List ℕ) where
@@ -59,8 +59,8 @@ module _ (labels : List ℕ) where
       → fold (after_word labels) (underway labels cs sofar []) words ≡ underway labels cs (sofar ++ words) []
   words-underway cs sofar [] all = ap (λ ws. underway labels cs ws []) (sym (append-nil sofar))
   words-underway cs sofar (word ∷ words) all =
-      let one = both _ _ all in
-      let some : 0 < length word = ltb-true 0 (length word) (both _ _ one.0).0 in
+      let one = and_parts _ _ all in
+      let some : 0 < length word = ltb-true 0 (length word) (and_parts _ _ one.0).0 in
       let terms = (numbered labels cs).terms in
       let first : after_word labels (underway labels cs sofar []) word ≡ underway labels cs (sofar ++ word ∷ []) [] =
       ap with_choice (symbols-underway sofar [] word (put_union labels terms sofar)) ∙ choice-step labels terms sofar word some in
@@ -71,7 +71,7 @@ module _ (labels : List ℕ) where
   conjunct-underway : (cs : List ConjunctValue) (c : ConjunctValue) → is_conjunct (length labels) c ≡ true
       → after_conjunct labels (underway labels cs [] []) c ≡ underway labels (cs ++ c ∷ []) [] []
   conjunct-underway cs c is =
-      let parts = both _ _ is in
+      let parts = and_parts _ _ is in
       let some : 0 < length c.words = ltb-true 0 (length c.words) parts.0 in
       let closes = closed-step labels cs c.words c.src c.trg c.star some in
       let all = numbered-push labels cs c in
@@ -82,7 +82,7 @@ module _ (labels : List ℕ) where
       → fold (after_conjunct labels) (underway labels sofar [] []) cs ≡ underway labels (sofar ++ cs) [] []
   conjuncts-underway sofar [] all = ap (λ ds. underway labels ds [] []) (sym (append-nil sofar))
   conjuncts-underway sofar (c ∷ cs) all =
-      let one = both _ _ all in
+      let one = and_parts _ _ all in
       ap (λ u. fold (after_conjunct labels) u cs) (conjunct-underway sofar c one.0)
       ∙ conjuncts-underway (sofar ++ c ∷ []) cs one.1
       ∙ ap (λ ds. underway labels ds [] []) (append_assoc sofar (c ∷ []) cs)
@@ -96,7 +96,7 @@ pub part_words : (n : ℕ) (symbols : List Symbol) (words part : List Span) (c :
     → (list_all (is_word n) (words_in symbols part) ≡ true) × (0 < length (words_in symbols part))
 part_words n symbols words part c cuts is =
     let same : cut (words_in symbols words) c.words ≡ words_in symbols part = cut-map (cut symbols) words c.words ∙ ap (words_in symbols) (sym cuts) in
-    let parts = both _ _ is in (
+    let parts = and_parts _ _ is in (
       subst (λ ws. list_all (is_word n) ws ≡ true) same parts.1,
       subst (λ ws. 0 < length ws) same (ltb-true 0 (length (cut (words_in symbols words) c.words)) parts.0),
     )

@@ -1,6 +1,6 @@
 -- A finished query has the terms of its rules, which keep the rules of queries.
 use Rattle.std.proofs.Common.{◌≡◌, ℕ, ◌-◌, ◌<◌, true, List, [], ◌∷◌, ◌++◌, length, map, nat_lt, refl, sym, ap, ◌∙◌, arith}
-use Rattle.std.proofs.lemmas.Bool.{lt-ltb}
+use Rattle.std.proofs.lemmas.Bool.{and_parts, lt-ltb}
 use Rattle.std.proofs.lemmas.List.{append-nil, take_all, length-map}
 use Rattle.std.proofs.lemmas.List.Folds.{list_all-append, flat_map-map}
 use Rattle.std.specs.List.{list_all}
@@ -15,15 +15,15 @@ use Rattle.query_terms.specs.Numbering.{numbered, numbering}
 use Rattle.query_terms.specs.Underway.{Underway, underway}
 use Rattle.query_terms.specs.Layout.{LayoutValue}
 use Rattle.query_terms.specs.Tied.{IsBuilding}
-use Rattle.query_terms.proofs.SpanLemmas.{both, and_true, covers-join}
+use Rattle.query_terms.proofs.SpanLemmas.{and_true, covers-join}
 use Rattle.query_terms.proofs.TreeLemmas.{are_numbered}
 
 -- the conjuncts of rules keep the rules of conjuncts
 pub conjuncts_keep : (edges : ℕ) (rules : List RuleValue) → list_all (is_rule edges) rules ≡ true → list_all (is_conjunct edges) (conjuncts_of rules) ≡ true
 conjuncts_keep edges [] h = refl
 conjuncts_keep edges (r ∷ rules) h =
-    let one = (both _ _ (both _ _ (both _ _ h).0).0).1 in
-    list_all-append (is_conjunct edges) r.conjuncts (conjuncts_of rules) ∙ and_true one (conjuncts_keep edges rules (both _ _ h).1)
+    let one = (and_parts _ _ (and_parts _ _ (and_parts _ _ h).0).0).1 in
+    list_all-append (is_conjunct edges) r.conjuncts (conjuncts_of rules) ∙ and_true one (conjuncts_keep edges rules (and_parts _ _ h).1)
 
 -- the conjuncts of the rules are those of the query
 pub conjuncts_are : (symbols : List Symbol) (words : List Span) (conjuncts : List Conjunct) (rules : List Rule)

@@ -1,6 +1,6 @@
 -- Parts of lists: what they are of a list that has more, and parts that stand one after the other.
-use Rattle.std.proofs.Common.{◌≡◌, ℕ, zero, suc, ◌+◌, ◌-◌, ◌<◌, ◌≤◌, Bool, true, false, ◌&&◌, List, [], ◌∷◌, ◌++◌, length, map, take, drop, fold, refl, sym, ap, ◌∙◌, true≢false, arith}
-use Rattle.std.proofs.lemmas.Bool.{leb-true, le-leb, eqb-true, eq-eqb}
+use Rattle.std.proofs.Common.{◌≡◌, ℕ, zero, suc, ◌+◌, ◌-◌, ◌<◌, ◌≤◌, Bool, true, ◌&&◌, List, [], ◌∷◌, ◌++◌, length, map, take, drop, fold, refl, sym, ap, ◌∙◌, arith}
+use Rattle.std.proofs.lemmas.Bool.{and_parts, leb-true, le-leb, eqb-true, eq-eqb}
 use Rattle.std.proofs.lemmas.List.{drop-take, drop-drop, take-map, drop-map, take_more, map-append}
 use Rattle.std.proofs.lemmas.List.Elements.{All-take, All-drop}
 use Rattle.std.proofs.lemmas.List.Sums.{fold_push, AllPass-from_list_all, list_all-from_AllPass}
@@ -10,23 +10,19 @@ use Rattle.std.specs.List.{list_all, flat_map, slice_index_or}
 use Rattle.gm_text.specs.declared.lists.Span.{Span}
 use Rattle.query_terms.specs.Spans.{cut, lies, covers}
 
-pub both : (a b : Bool) → (a && b) ≡ true → (a ≡ true) × (b ≡ true)
-both true b h = (refl, h)
-both false b h = absurd (true≢false (sym h))
-
 pub and_true : {a b : Bool} → a ≡ true → b ≡ true → (a && b) ≡ true
 and_true p q = λ i. p i && q i
 
 -- a test that holds where another does
 pub list_all_more : {X : Type 0} (p q : X → Bool) (xs : List X) → ((x : X) → p x ≡ true → q x ≡ true) → list_all p xs ≡ true → list_all q xs ≡ true
 list_all_more p q [] more h = refl
-list_all_more p q (x ∷ xs) more h = and_true (more x (both (p x) (list_all p xs) h).0) (list_all_more p q xs more (both (p x) (list_all p xs) h).1)
+list_all_more p q (x ∷ xs) more h = and_true (more x (and_parts (p x) (list_all p xs) h).0) (list_all_more p q xs more (and_parts (p x) (list_all p xs) h).1)
 
 -- two functions that agree on what passes a test
 pub map_where : {X Y : Type 0} (f g : X → Y) (p : X → Bool) (xs : List X) → list_all p xs ≡ true → ((x : X) → p x ≡ true → f x ≡ g x) → map f xs ≡ map g xs
 map_where f g p [] all same = refl
 map_where f g p (x ∷ xs) all same =
-    λ i. same x (both (p x) (list_all p xs) all).0 i ∷ map_where f g p xs (both (p x) (list_all p xs) all).1 same i
+    λ i. same x (and_parts (p x) (list_all p xs) all).0 i ∷ map_where f g p xs (and_parts (p x) (list_all p xs) all).1 same i
 
 -- a fold over what a function makes of the first items, with one more
 pub fold_map_more : {X Y Z : Type 0} (f : Z → Y → Z) (h : X → Y) (a : Z) (xs : List X) (i : ℕ) (d : X) → i < length xs
@@ -39,8 +35,8 @@ fold_map_more f h a xs i d lt =
 -- an item of a list whose items all pass
 passes_nth : {X : Type 0} (p : X → Bool) (xs : List X) (i : ℕ) (d : X) → list_all p xs ≡ true → i < length xs → p (slice_index_or xs i d) ≡ true
 passes_nth p [] i d all lt = absurd (omega (arith, lt))
-passes_nth p (x ∷ xs) zero d all lt = (both (p x) (list_all p xs) all).0
-passes_nth p (x ∷ xs) (suc i) d all lt = passes_nth p xs i d (both (p x) (list_all p xs) all).1 (omega (arith, lt))
+passes_nth p (x ∷ xs) zero d all lt = (and_parts (p x) (list_all p xs) all).0
+passes_nth p (x ∷ xs) (suc i) d all lt = passes_nth p xs i d (and_parts (p x) (list_all p xs) all).1 (omega (arith, lt))
 
 -- what passes each of what a function makes of a list
 pub passes_mapped : {X Y : Type 0} (p : Y → Bool) (h : X → Y) (xs : List X) (i : ℕ) (d : X) → list_all p (map h xs) ≡ true → i < length xs → p (h (slice_index_or xs i d)) ≡ true
@@ -85,14 +81,14 @@ lies_more n m s more lie = le-leb _ m (omega (arith, more, leb-true _ n lie))
 pub covers-most : (from : ℕ) (spans : List Span) (to : ℕ) → covers from spans to ≡ true → from ≤ to
 covers-most from [] to h = omega (arith, eqb-true from to h)
 covers-most from (s ∷ spans) to h =
-    omega (arith, covers-most (from + s.count) spans to (both _ _ h).1)
+    omega (arith, covers-most (from + s.count) spans to (and_parts _ _ h).1)
 
 -- parts that stand one after the other lie before the end of the last
 pub covers-lie : (from : ℕ) (spans : List Span) (to : ℕ) → covers from spans to ≡ true → list_all (lies to) spans ≡ true
 covers-lie from [] to h = refl
 covers-lie from (s ∷ spans) to h =
-    let rest : covers (from + s.count) spans to ≡ true = (both _ _ h).1 in
-    let begins : s.first ≡ from = eqb-true s.first from (both _ _ h).0 in
+    let rest : covers (from + s.count) spans to ≡ true = (and_parts _ _ h).1 in
+    let begins : s.first ≡ from = eqb-true s.first from (and_parts _ _ h).0 in
     let most : from + s.count ≤ to = covers-most (from + s.count) spans to rest in
     and_true (le-leb (s.first + s.count) to (omega (arith, begins, most))) (covers-lie (from + s.count) spans to rest)
 
@@ -102,7 +98,7 @@ pub covers-push : (from : ℕ) (spans : List Span) (to : ℕ) (s : Span) (end : 
 covers-push from [] to s end h begins ends =
     and_true (eq-eqb s.first from (omega (arith, begins, eqb-true from to h))) (eq-eqb (from + s.count) end (omega (arith, ends, eqb-true from to h)))
 covers-push from (t ∷ spans) to s end h begins ends =
-    and_true (both _ _ h).0 (covers-push (from + t.count) spans to s end (both _ _ h).1 begins ends)
+    and_true (and_parts _ _ h).0 (covers-push (from + t.count) spans to s end (and_parts _ _ h).1 begins ends)
 
 -- the parts joined are the list between the ends
 pub covers-join : {X : Type 0} (xs : List X) (from : ℕ) (spans : List Span) (to : ℕ) → covers from spans to ≡ true
@@ -111,8 +107,8 @@ covers-join xs from [] to h =
     let none : 0 ≡ to - from = omega (arith, eqb-true from to h) in
     ap (λ n. take n (drop from xs)) none
 covers-join xs from (s ∷ spans) to h =
-    let rest : covers (from + s.count) spans to ≡ true = (both _ _ h).1 in
-    let begins : s.first ≡ from = eqb-true s.first from (both _ _ h).0 in
+    let rest : covers (from + s.count) spans to ≡ true = (and_parts _ _ h).1 in
+    let begins : s.first ≡ from = eqb-true s.first from (and_parts _ _ h).0 in
     let most : from + s.count ≤ to = covers-most (from + s.count) spans to rest in
     let whole : s.count + (to - (from + s.count)) ≡ to - from = omega (arith, most) in
     (λ i. take s.count (drop (begins i) xs) ++ covers-join xs (from + s.count) spans to rest i)

@@ -1,6 +1,6 @@
 -- A builder keeps its terms with its lists.
 use Rattle.std.proofs.Common.{◌≡◌, ℕ, ◌+◌, ◌<◌, Bool, true, ◌==◌, List, [], ◌∷◌, ◌++◌, length, Some, None, is_some, refl, sym, ap, ◌∙◌, arith}
-use Rattle.std.proofs.lemmas.Bool.{lt-ltb, eqb-true, eq-eqb}
+use Rattle.std.proofs.lemmas.Bool.{and_parts, lt-ltb, eqb-true, eq-eqb}
 use Rattle.std.proofs.lemmas.List.{append_assoc, append-nil}
 use Rattle.std.proofs.lemmas.List.Folds.{list_all-append}
 use Rattle.std.proofs.lemmas.List.Sums.{fold_push}
@@ -15,7 +15,7 @@ use Rattle.query_terms.specs.Building.{symbols_most}
 use Rattle.query_terms.specs.Underway.{Underway, underway, underway_from, with_step, with_choice, with_end, closed}
 use Rattle.query_terms.specs.Layout.{LayoutValue, with_conjunct, with_rule}
 use Rattle.query_terms.specs.Tied.{IsBuilding}
-use Rattle.query_terms.proofs.SpanLemmas.{both, and_true}
+use Rattle.query_terms.proofs.SpanLemmas.{and_true}
 
 -- the conjuncts so far
 abbrev pub all_of : LayoutValue → List ConjunctValue
@@ -153,7 +153,7 @@ heads-push : (rules : List RuleValue) (r : RuleValue) → have_heads (length r.h
     → have_heads (arity_of (rules ++ r ∷ [])) (rules ++ r ∷ []) ≡ true
 heads-push [] r same all = and_true (eq-eqb (length r.heads) (length r.heads) refl) refl
 heads-push (s ∷ rules) r same all =
-    push-all (λ t. length t.heads == length s.heads) (s ∷ rules) r all (eq-eqb (length r.heads) (length s.heads) (sym (eqb-true (length s.heads) (length r.heads) (both _ _ same).0)))
+    push-all (λ t. length t.heads == length s.heads) (s ∷ rules) r all (eq-eqb (length r.heads) (length s.heads) (sym (eqb-true (length s.heads) (length r.heads) (and_parts _ _ same).0)))
 
 -- a rule more
 pub tied_rule : (labels : List ℕ) (l : LayoutValue) (u : Underway) (heads : List ℕ) → IsBuilding labels l u → 0 < length l.conjuncts

@@ -1,6 +1,6 @@
 -- The trees of terms: a term keeps its tree as the store grows, and what is put for words has the words' trees.
 use Rattle.std.proofs.Common.{◌≡◌, ℕ, suc, ◌<◌, ◌≤◌, Bool, true, false, nat_lt, List, [], ◌∷◌, ◌++◌, length, map, take, drop, fold, get_or, Some, if◌then◌else◌, refl, sym, ap, subst, ◌∙◌, inl, inr, arith}
-use Rattle.std.proofs.lemmas.Bool.{cases_lt, lt-ltb, ltb-true}
+use Rattle.std.proofs.lemmas.Bool.{and_parts, cases_lt, lt-ltb, ltb-true}
 use Rattle.std.proofs.lemmas.List.{append-nil, append_assoc, length-append, get_or_push, get_or_append_left, length-take-le, map-append}
 use Rattle.std.proofs.lemmas.List.Sums.{fold_push, fold-append}
 use Rattle.std.proofs.lemmas.Option.{slice_get_within, slice_get-get_or}
@@ -14,7 +14,7 @@ use Rattle.query_terms.specs.Store.{ChildrenBelow, IsStore, Placed, number_of, p
 use Rattle.query_terms.specs.Numbering.{step_of, in_sequence, then_symbol, put_word, in_choice, then_word, put_union, starred, put_conjunct, Numbered, with_number, then_conjunct, numbered}
 use Rattle.query_terms.specs.Trees.{tree_in, tree_of, with_tree, trees_of, tree_at}
 use Rattle.query_terms.specs.Laws.{TermsKeepTrees, PutIsTree, ConjunctsAreTrees, tree_of_conjunct}
-use Rattle.query_terms.proofs.SpanLemmas.{both, and_true, list_all_more, map_where}
+use Rattle.query_terms.proofs.SpanLemmas.{and_true, list_all_more, map_where}
 use Rattle.std.proofs.lemmas.List.Folds.{list_all-append}
 use Rattle.std.proofs.Math.Seq.{split_at}
 use Rattle.query_terms.proofs.StoreLemmas.{number_of-there, put_is_there, put_is_new, store_push}
@@ -145,7 +145,7 @@ symbols_stand labels before p tree (x ∷ word) s =
     (sequence_stands before p (put_of p.terms (step_of labels x)) tree (step_tree labels x) s (put_stands p.terms (step_of labels x) s.store tt))
 
 word_stands : (labels : List ℕ) (edges : ℕ) (terms : List Term) (word : List Symbol) → IsStore terms → is_word edges word ≡ true → Stands terms (put_word labels terms word) (word_tree labels word)
-word_stands labels edges terms [] store h = absurd (omega (arith, ltb-true 0 0 (both (nat_lt 0 0) true h).0))
+word_stands labels edges terms [] store h = absurd (omega (arith, ltb-true 0 0 (and_parts (nat_lt 0 0) true h).0))
 word_stands labels edges terms (x ∷ word) store h =
     symbols_stand labels terms (put_of terms (step_of labels x)) (step_tree labels x) word (put_stands terms (step_of labels x) store tt)
 
@@ -154,13 +154,13 @@ words_stand : (labels : List ℕ) (edges : ℕ) (before : List Term) (p : Placed
 words_stand labels edges before p tree [] s h = s
 words_stand labels edges before p tree (w ∷ words) s h =
     words_stand labels edges before (then_word labels p w) (Tree.Alt tree (word_tree labels w)) words
-    (choice_stands before p (put_word labels p.terms w) tree (word_tree labels w) s (word_stands labels edges p.terms w s.store (both _ _ h).0)) (both _ _ h).1
+    (choice_stands before p (put_word labels p.terms w) tree (word_tree labels w) s (word_stands labels edges p.terms w s.store (and_parts _ _ h).0)) (and_parts _ _ h).1
 
 union_stands : (labels : List ℕ) (edges : ℕ) (terms : List Term) (words : List (List Symbol)) → IsStore terms → nat_lt 0 (length words) ≡ true → list_all (is_word edges) words ≡ true
     → Stands terms (put_union labels terms words) (union_tree labels words)
 union_stands labels edges terms [] store some h = absurd (omega (arith, ltb-true 0 0 some))
 union_stands labels edges terms (w ∷ words) store some h =
-    words_stand labels edges terms (put_word labels terms w) (word_tree labels w) words (word_stands labels edges terms w store (both _ _ h).0) (both _ _ h).1
+    words_stand labels edges terms (put_word labels terms w) (word_tree labels w) words (word_stands labels edges terms w store (and_parts _ _ h).0) (and_parts _ _ h).1
 
 starred_stands : (before : List Term) (p : Placed) (tree : Tree) (star : Bool) → Stands before p tree → Stands before (starred star p) (if star then Tree.Star tree else tree)
 starred_stands before p tree true s =
@@ -177,7 +177,7 @@ starred_stands before p tree false s = s
 conjunct_stands : (labels : List ℕ) (terms : List Term) (c : ConjunctValue) → IsStore terms → is_conjunct (length labels) c ≡ true → Stands terms (put_conjunct labels terms c) (tree_of_conjunct labels c)
 conjunct_stands labels terms c store h =
     starred_stands terms (put_union labels terms c.words) (union_tree labels c.words) c.star
-    (union_stands labels (length labels) terms c.words store (both _ _ h).0 (both _ _ h).1)
+    (union_stands labels (length labels) terms c.words store (and_parts _ _ h).0 (and_parts _ _ h).1)
 
 -- the numbers of conjuncts stand for their trees
 pub record AreNumbered (n : Numbered) (trees : List Tree) : Type 0 where
@@ -205,7 +205,7 @@ conjuncts_numbered labels n trees [] is h = subst (AreNumbered n) (sym (append-n
 conjuncts_numbered labels n trees (c ∷ cs) is h =
     subst (AreNumbered (fold (then_conjunct labels) n (c ∷ cs))) (append_assoc trees (tree_of_conjunct labels c ∷ []) (map (tree_of_conjunct labels) cs))
     (conjuncts_numbered labels (then_conjunct labels n c) (trees ++ tree_of_conjunct labels c ∷ []) cs
-    (conjunct_numbered n trees (put_conjunct labels n.terms c) (tree_of_conjunct labels c) is (conjunct_stands labels n.terms c is.store (both _ _ h).0)) (both _ _ h).1)
+    (conjunct_numbered n trees (put_conjunct labels n.terms c) (tree_of_conjunct labels c) is (conjunct_stands labels n.terms c is.store (and_parts _ _ h).0)) (and_parts _ _ h).1)
 
 no_store : IsStore []
 no_store = record { children = λ n term at. absurd (omega (arith, slice_get_within [] n term at)); differ = λ i j d less within. absurd (omega (arith, within)) }

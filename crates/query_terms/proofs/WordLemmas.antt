@@ -1,6 +1,6 @@
 -- Words that are kept once each: a word that is there has its place, and another goes last.
 use Rattle.std.proofs.Common.{◌≡◌, ℕ, ◌+◌, ◌<◌, ◌≤◌, Bool, true, false, ◌||◌, List, [], ◌∷◌, ◌++◌, length, map, take, drop, fold, Option, Some, None, unwrap_or, is_some, if◌then◌else◌, refl, sym, ap, subst, ◌∙◌, true≢false, inl, inr, arith}
-use Rattle.std.proofs.lemmas.Bool.{cases_Bool, le-leb}
+use Rattle.std.proofs.lemmas.Bool.{and_parts, cases_Bool, le-leb}
 use Rattle.std.proofs.lemmas.List.{map-append, append-nil, take-append-drop, take-append-le, drop-append-le, length-append, length-take-le, length-drop, take_all}
 use Rattle.std.proofs.lemmas.List.Folds.{list_any-append, list_all-append}
 use Rattle.std.proofs.lemmas.Grind.{flat_map-append}
@@ -17,7 +17,7 @@ use Rattle.query_terms.specs.Spans.{cut, lies, same_symbol, same_word, with_word
 use Rattle.query_terms.specs.Lists.{words_in}
 use Rattle.query_terms.specs.Layout.{words_value, spanned, AreKept, AreWords}
 use Rattle.query_terms.specs.Building.{symbols_most}
-use Rattle.query_terms.proofs.SpanLemmas.{both, and_true, map_where, list_all_more, cut_same, cut-take, lies_more}
+use Rattle.query_terms.proofs.SpanLemmas.{and_true, map_where, list_all_more, cut_same, cut-take, lies_more}
 
 same_test : (s t : Symbol) → eq-value.it s t ≡ same_symbol s t
 same_test s t = grind arith
@@ -32,7 +32,7 @@ word_is : (v w : List Symbol) → same_word v w ≡ true → v ≡ w
 word_is [] [] h = refl
 word_is [] (t ∷ w) h = absurd (true≢false (sym h))
 word_is (s ∷ v) [] h = absurd (true≢false (sym h))
-word_is (s ∷ v) (t ∷ w) h = λ i. symbol_is s t (both _ _ h).0 i ∷ word_is v w (both _ _ h).1 i
+word_is (s ∷ v) (t ∷ w) h = λ i. symbol_is s t (and_parts _ _ h).0 i ∷ word_is v w (and_parts _ _ h).1 i
 
 same_word-self : (w : List Symbol) → same_word w w ≡ true
 same_word-self [] = refl

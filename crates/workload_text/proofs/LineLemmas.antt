@@ -4,7 +4,7 @@ use Rattle.std.specs.Prelude.{IfSome, ⊤, option_map, option_and_then, nat_lt, 
 use Rattle.std.specs.List.{list_all, slice_split, join_with_byte, between}
 use Rattle.std.specs.Char.{is_ascii_digit}
 use Rattle.std.proofs.lemmas.Option.{IfSome_then}
-use Rattle.std.proofs.lemmas.Bool.{ne_eqb, eqb-true}
+use Rattle.std.proofs.lemmas.Bool.{and_parts, ne_eqb, eqb-true}
 use Rattle.std.specs.Str.{bytes_eq}
 use Rattle.std.proofs.lemmas.Bool.Decides.{nat_tests}
 use Rattle.std.proofs.lemmas.Slice.Eq.{bytes_eq-Decides}
@@ -16,7 +16,7 @@ use Rattle.std.proofs.lemmas.List.Splits.{slice_split_at, slice_split_none, leng
 use Rattle.gm_text.specs.Name.{is_name, is_name_byte}
 use Rattle.gm_text.specs.Decimal.{is_canonical}
 use Rattle.gm_text.specs.Lines.{is_byte, words_of}
-use Rattle.query_terms.proofs.SpanLemmas.{both, and_true, list_all_more}
+use Rattle.query_terms.proofs.SpanLemmas.{and_true, list_all_more}
 use Rattle.sel_algebra.specs.declared.vocabulary.Op.{Op}
 use Rattle.sel_algebra.specs.declared.vocabulary.Op.TheVariants.{Equal, Less, Greater, Diamond, Cross}
 use Rattle.sel_algebra.specs.declared.vocabulary.Kind.{Kind}
@@ -41,27 +41,27 @@ Lacks-from p b fails xs all k d in_range =
 split-join : (p : ℕ → Bool) (b : ℕ) → p b ≡ false → (words : List (List ℕ)) → 0 < length words → list_all (list_all p) words ≡ true
     → slice_split (is_byte b) (join_with_byte b words) ≡ words
 split-join p b fails [] some all = absurd (omega arith)
-split-join p b fails (w ∷ []) some all = slice_split_none (is_byte b) w (Lacks-from p b fails w (both _ _ all).0)
+split-join p b fails (w ∷ []) some all = slice_split_none (is_byte b) w (Lacks-from p b fails w (and_parts _ _ all).0)
 split-join p b fails (w ∷ v ∷ words) some all =
-    slice_split_at (is_byte b) w b (join_with_byte b (v ∷ words)) (Lacks-from p b fails w (both _ _ all).0) (grind (arith, nat_tests))
-    ∙ ap (λ ws. w ∷ ws) (split-join p b fails (v ∷ words) (omega arith) (both _ _ all).1)
+    slice_split_at (is_byte b) w b (join_with_byte b (v ∷ words)) (Lacks-from p b fails w (and_parts _ _ all).0) (grind (arith, nat_tests))
+    ∙ ap (λ ws. w ∷ ws) (split-join p b fails (v ∷ words) (omega arith) (and_parts _ _ all).1)
 
 -- bytes of joined words
 pub list_all-join : (p : ℕ → Bool) (b : ℕ) → p b ≡ true → (words : List (List ℕ)) → list_all (list_all p) words ≡ true → list_all p (join_with_byte b words) ≡ true
 list_all-join p b passes [] all = refl
-list_all-join p b passes (w ∷ []) all = (both _ _ all).0
+list_all-join p b passes (w ∷ []) all = (and_parts _ _ all).0
 list_all-join p b passes (w ∷ v ∷ words) all =
     list_all-append p w (b ∷ join_with_byte b (v ∷ words))
-    ∙ and_true (both _ _ all).0 (and_true passes (list_all-join p b passes (v ∷ words) (both _ _ all).1))
+    ∙ and_true (and_parts _ _ all).0 (and_true passes (list_all-join p b passes (v ∷ words) (and_parts _ _ all).1))
 
 pub list_all-map : {X Y : Type 0} (p : Y → Bool) (q : X → Bool) (f : X → Y) → ((x : X) → q x ≡ true → p (f x) ≡ true) → (xs : List X) → list_all q xs ≡ true
     → list_all p (map f xs) ≡ true
 list_all-map p q f each [] all = refl
-list_all-map p q f each (x ∷ xs) all = and_true (each x (both _ _ all).0) (list_all-map p q f each xs (both _ _ all).1)
+list_all-map p q f each (x ∷ xs) all = and_true (each x (and_parts _ _ all).0) (list_all-map p q f each xs (and_parts _ _ all).1)
 
 pub map-back : {X Y : Type 0} (q : X → Bool) (f : X → Y) (g : Y → X) → ((x : X) → q x ≡ true → g (f x) ≡ x) → (xs : List X) → list_all q xs ≡ true → map g (map f xs) ≡ xs
 map-back q f g each [] all = refl
-map-back q f g each (x ∷ xs) all = λ i. each x (both _ _ all).0 i ∷ map-back q f g each xs (both _ _ all).1 i
+map-back q f g each (x ∷ xs) all = λ i. each x (and_parts _ _ all).0 i ∷ map-back q f g each xs (and_parts _ _ all).1 i
 
 -- ---- the bytes of words
 
@@ -116,13 +116,13 @@ path-bytes : (w : List WrittenSymbol) → is_path w ≡ true → list_all is_uni
 path-bytes w is =
     list_all-join is_union_byte 46 refl (map symbol_word w)
     (list_all-map (list_all is_union_byte) is_symbol symbol_word (λ s ok. list_all_more is_path_byte is_union_byte (symbol_word s) path-union (symbol-bytes s ok))
-    w (both (nat_lt 0 (length w)) _ is).1)
+    w (and_parts (nat_lt 0 (length w)) _ is).1)
 
 union-bytes : (ws : List (List WrittenSymbol)) → is_union ws ≡ true → list_all is_expr_byte (union_word ws) ≡ true
 union-bytes ws is =
     list_all-join is_expr_byte 43 refl (map path_word ws)
     (list_all-map (list_all is_expr_byte) is_path path_word (λ w ok. list_all_more is_union_byte is_expr_byte (path_word w) union-expr (path-bytes w ok))
-    ws (both (nat_lt 0 (length ws)) _ is).1)
+    ws (and_parts (nat_lt 0 (length ws)) _ is).1)
 
 -- a symbol is read from its word
 first-digit : (word : List ℕ) → is_canonical word ≡ true → is_ascii_digit (get_or word 0 0) ≡ true
@@ -146,25 +146,25 @@ map-some f xs some = grind (arith, nat_tests, length-map xs f)
 
 path-cut : (w : List WrittenSymbol) → is_path w ≡ true → slice_split (is_byte 46) (path_word w) ≡ map symbol_word w
 path-cut w is =
-    split-join is_path_byte 46 refl (map symbol_word w) (map-some symbol_word w (both _ _ is).0)
-    (list_all-map (list_all is_path_byte) is_symbol symbol_word symbol-bytes w (both _ _ is).1)
+    split-join is_path_byte 46 refl (map symbol_word w) (map-some symbol_word w (and_parts _ _ is).0)
+    (list_all-map (list_all is_path_byte) is_symbol symbol_word symbol-bytes w (and_parts _ _ is).1)
 
 union-cut : (ws : List (List WrittenSymbol)) → is_union ws ≡ true → slice_split (is_byte 43) (union_word ws) ≡ map path_word ws
 union-cut ws is =
-    split-join is_union_byte 43 refl (map path_word ws) (map-some path_word ws (both _ _ is).0)
-    (list_all-map (list_all is_union_byte) is_path path_word path-bytes ws (both _ _ is).1)
+    split-join is_union_byte 43 refl (map path_word ws) (map-some path_word ws (and_parts _ _ is).0)
+    (list_all-map (list_all is_union_byte) is_path path_word path-bytes ws (and_parts _ _ is).1)
 
 path-read : (w : List WrittenSymbol) → is_path w ≡ true → read_path (path_word w) ≡ w
-path-read w is = ap (map read_symbol) (path-cut w is) ∙ map-back is_symbol symbol_word read_symbol symbol-read w (both _ _ is).1
+path-read w is = ap (map read_symbol) (path-cut w is) ∙ map-back is_symbol symbol_word read_symbol symbol-read w (and_parts _ _ is).1
 
 path_word-is : (w : List WrittenSymbol) → is_path w ≡ true → is_path_word (path_word w) ≡ true
-path_word-is w is = ap (list_all is_symbol_word) (path-cut w is) ∙ list_all-map is_symbol_word is_symbol symbol_word symbol_word-is w (both _ _ is).1
+path_word-is w is = ap (list_all is_symbol_word) (path-cut w is) ∙ list_all-map is_symbol_word is_symbol symbol_word symbol_word-is w (and_parts _ _ is).1
 
 pub union-read : (ws : List (List WrittenSymbol)) → is_union ws ≡ true → read_union (union_word ws) ≡ ws
-union-read ws is = ap (map read_path) (union-cut ws is) ∙ map-back is_path path_word read_path path-read ws (both _ _ is).1
+union-read ws is = ap (map read_path) (union-cut ws is) ∙ map-back is_path path_word read_path path-read ws (and_parts _ _ is).1
 
 pub union_word-is : (ws : List (List WrittenSymbol)) → is_union ws ≡ true → is_union_word (union_word ws) ≡ true
-union_word-is ws is = ap (list_all is_path_word) (union-cut ws is) ∙ list_all-map is_path_word is_path path_word path_word-is ws (both _ _ is).1
+union_word-is ws is = ap (list_all is_path_word) (union-cut ws is) ∙ list_all-map is_path_word is_path path_word path_word-is ws (and_parts _ _ is).1
 
 -- ---- words within a star
 
@@ -173,7 +173,7 @@ not_starred w other = grind arith
 
 union-plain : (u : List ℕ) → list_all is_expr_byte u ≡ true → is_starred_word u ≡ false
 union-plain [] all = refl
-union-plain (x ∷ u) all = not_starred (x ∷ u) (ne_eqb x 40 (λ same. true≢false (sym (both _ _ all).0 ∙ ap is_expr_byte same)))
+union-plain (x ∷ u) all = not_starred (x ∷ u) (ne_eqb x 40 (λ same. true≢false (sym (and_parts _ _ all).0 ∙ ap is_expr_byte same)))
 
 module _ (u : List ℕ) where
   starred-length : length (40 ∷ (u ++ codes ")*")) ≡ length u + 3
@@ -273,10 +273,10 @@ line-words format (EdgeLine source label target op) is =
     let parts = three (is_canonical source) (is_canonical label) (is_canonical target) is in
     and_true refl (and_true (number-word source parts.0) (and_true (number-word label parts.1) (and_true (number-word target parts.2) (and_true (op-word op) refl))))
 line-words format (QueryLine number asked) is =
-    and_true refl (and_true (number-word number (both _ _ is).0)
+    and_true refl (and_true (number-word number (and_parts _ _ is).0)
     (and_true (shape-word asked.shape) (and_true (class-word asked.class) (and_true (class-word asked.wide) refl))))
 line-words format (RuleLine heads) is =
-    and_true refl (list_all-map W is_canonical variable_word (λ n ok. and_true refl (number-word n ok)) heads (both _ _ is).1)
+    and_true refl (list_all-map W is_canonical variable_word (λ n ok. and_true refl (number-word n ok)) heads (and_parts _ _ is).1)
 line-words format (ConjunctLine src trg star words) is =
     let parts = three (is_canonical src) (is_canonical trg) (is_union words) is in
     and_true (and_true refl (number-word src parts.0)) (and_true (expr-word star words parts.2) (and_true (and_true refl (number-word trg parts.1)) refl))
@@ -337,9 +337,9 @@ line_of_words-line format (EdgeLine source label target op) is = rw (is, op-read
 line_of_words-line format (QueryLine number asked) is =
     rw (shape-read asked.shape, class-read asked.class, class-read asked.wide) (rw is refl)
 line_of_words-line format (RuleLine heads) is =
-    let all : list_all is_variable (map variable_word heads) ≡ true = list_all-map is_variable is_canonical variable_word variable-is heads (both _ _ is).1 in
-    let two : has_heads_of format (length (map variable_word heads)) ≡ true = ap (has_heads_of format) (length-map heads variable_word) ∙ (both _ _ is).0 in
-    let back : map (drop 1) (map variable_word heads) ≡ heads = map-back is_canonical variable_word (drop 1) (λ n ok. refl) heads (both _ _ is).1 in
+    let all : list_all is_variable (map variable_word heads) ≡ true = list_all-map is_variable is_canonical variable_word variable-is heads (and_parts _ _ is).1 in
+    let two : has_heads_of format (length (map variable_word heads)) ≡ true = ap (has_heads_of format) (length-map heads variable_word) ∙ (and_parts _ _ is).0 in
+    let back : map (drop 1) (map variable_word heads) ≡ heads = map-back is_canonical variable_word (drop 1) (λ n ok. refl) heads (and_parts _ _ is).1 in
     rw (two, all, back) refl
 line_of_words-line format (ConjunctLine src trg star words) is =
     let parts = three (is_canonical src) (is_canonical trg) (is_union words) is in
@@ -453,10 +453,10 @@ begins [] b is some = absurd (omega (arith, eqb-true 0 b is, some))
 begins (x ∷ w) b is some = ap (λ y. y ∷ w) (eqb-true x b is)
 
 variable-of : (w : List ℕ) → is_variable w ≡ true → w ≡ variable_word (drop 1 w)
-variable-of w is = begins w 120 (both _ _ is).0 (omega arith)
+variable-of w is = begins w 120 (and_parts _ _ is).0 (omega arith)
 
 variable-number : (w : List ℕ) → is_variable w ≡ true → is_canonical (drop 1 w) ≡ true
-variable-number w is = (both (begins_with_x w) (is_canonical (drop 1 w)) is).1
+variable-number w is = (and_parts (begins_with_x w) (is_canonical (drop 1 w)) is).1
 
 and_three : (a b c : Bool) → a ≡ true → b ≡ true → c ≡ true → (a && b && c) ≡ true
 and_three a b c p q r = rw (p, q, r) refl
@@ -581,8 +581,8 @@ module _ (format : ℕ) (first : List ℕ) (rest : List (List ℕ)) where
 
   of-rule : first ≡ codes "rule" → IfSome (line_of_sort format Rule first rest) Q
   of-rule b = if-some Q (has_heads_of format (length rest) && list_all is_variable rest) (Some (RuleLine (map (drop 1) rest))) None (λ ok.
-      let all = (both _ _ ok).1 in (
-        and_true (ap (has_heads_of format) (length-map rest (drop 1)) ∙ (both _ _ ok).0)
+      let all = (and_parts _ _ ok).1 in (
+        and_true (ap (has_heads_of format) (length-map rest (drop 1)) ∙ (and_parts _ _ ok).0)
             (list_all-map is_canonical is_variable (drop 1) variable-number rest all),
         λ i. b i ∷ sym (map-back is_variable (drop 1) variable_word (λ w v. sym (variable-of w v)) rest all) i,
       )) tt

@@ -1,12 +1,12 @@
 -- The number of a word.
 use Rattle.std.proofs.Common.{◌≡◌, ℕ, ◌+◌, ◌*◌, ◌-◌, ◌<◌, ◌≤◌, ◌^◌, true, List, [], ◌∷◌, length, get_or, drop, sym, ap, ◌∙◌, arith, decimal}
+use Rattle.std.proofs.lemmas.Bool.{and_parts}
 use Rattle.std.specs.List.{list_all}
 use Rattle.std.specs.Char.{is_ascii_digit, digit_value}
 use Rattle.std.specs.Str.Parse.{digits_value_after}
 use Rattle.std.proofs.lemmas.Bool.Decides.{nat_tests}
 use Rattle.std.proofs.lemmas.List.{at_drop_more}
 use Rattle.std.proofs.lemmas.Str.{digit_value_digit}
-use Rattle.query_terms.proofs.SpanLemmas.{both}
 use Rattle.gm_text.specs.Decimal.{IsCanonical}
 use Rattle.gm_text.proofs.DecimalLemmas.{digits_value_decimal}
 use Rattle.workload_text.specs.Sofar.{number}
@@ -43,7 +43,7 @@ pub record NextDigit (word : List ℕ) (i byte value : ℕ) : Type 0 where
 
 pub next_digit : (word : List ℕ) (i byte value : ℕ) → i < length word → byte ≡ get_or word i 0 → list_all is_ascii_digit (drop i word) ≡ true → NextDigit word i byte value
 next_digit word i byte value within is all =
-    let halves = both (is_ascii_digit byte) (list_all is_ascii_digit (drop (i + 1) word)) (rw is (sym (at_drop_more (list_all is_ascii_digit) word i 0 within) ∙ all)) in
+    let halves = and_parts (is_ascii_digit byte) (list_all is_ascii_digit (drop (i + 1) word)) (rw is (sym (at_drop_more (list_all is_ascii_digit) word i 0 within) ∙ all)) in
     let low : 48 ≤ byte = digit_low byte halves.0 in
     let high : byte ≤ 57 = digit_high byte halves.0 in
     let number = at_drop_more (digits_value_after 10 value) word i 0 within

@@ -2,13 +2,13 @@
 use Rattle.std.proofs.Common.{◌≡◌, ℕ, ◌+◌, Bool, true, false, not, ◌||◌, ◌==◌, if◌then◌else◌, Option, Some, None, Ok, Err, List, [], ◌∷◌, ◌++◌, length, map, refl, sym, ap, subst, ◌∙◌, arith, true≢false}
 use Rattle.std.specs.Prelude.{⊤, IfSome, is_some}
 use Rattle.std.specs.List.{list_all, slice_split, join_with_byte, flat_map}
-use Rattle.std.proofs.lemmas.Bool.{ne_eqb}
+use Rattle.std.proofs.lemmas.Bool.{and_parts, ne_eqb}
 use Rattle.std.proofs.lemmas.List.{append_assoc, append-nil}
 use Rattle.std.proofs.lemmas.List.Folds.{flat_map-map}
 use Rattle.std.proofs.lemmas.List.Splits.{slice_split_at, join_with_byte-slice_split}
 use Rattle.gm_text.specs.Lines.{is_byte, lines_of_parts, lines_of}
 use Rattle.gm_text.proofs.LinesLemmas.{lines_of-cut}
-use Rattle.query_terms.proofs.SpanLemmas.{both, list_all_more}
+use Rattle.query_terms.proofs.SpanLemmas.{list_all_more}
 use Rattle.workload_text.specs.declared.sorts.Sort.{Sort}
 use Rattle.workload_text.specs.declared.sorts.Sort.TheVariants.{First, Label, NodeType, Edge, Query, Rule, Conjunct, End}
 use Rattle.workload_text.specs.Values.{WorkValue}
@@ -49,7 +49,7 @@ not_end x = not (x == 10)
 line-ends : (format : ℕ) (line : WorkLine) → is_line format line ≡ true → list_all not_end (line_bytes line) ≡ true
 line-ends format line is =
     list_all-join not_end 32 refl (line_words line)
-    (list_all_more W (list_all not_end) (line_words line) (λ w ok. list_all_more is_word_byte not_end w (λ x byte. (both (not (x == 32)) (not (x == 10)) byte).1) ok)
+    (list_all_more W (list_all not_end) (line_words line) (λ w ok. list_all_more is_word_byte not_end w (λ x byte. (and_parts (not (x == 32)) (not (x == 10)) byte).1) ok)
     (line-words format line is))
 
 lines_of-line : (format : ℕ) (line : WorkLine) (text : List ℕ) → is_line format line ≡ true → lines_of ((line_bytes line ++ 10 ∷ []) ++ text) ≡ text_line line ∷ lines_of text

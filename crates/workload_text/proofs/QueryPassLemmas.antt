@@ -2,7 +2,7 @@
 use Rattle.std.proofs.Common.{◌≡◌, ℕ, ◌+◌, ◌<◌, ◌≤◌, ◌^◌, Bool, true, false, not, ◌&&◌, ◌||◌, ◌==◌, if◌then◌else◌, decimal, Option, Some, None, is_some, Ok, List, [], ◌∷◌, ◌++◌, length, map, All, refl, sym, ap, subst, ◌∙◌, arith, true≢false}
 use Rattle.std.specs.Prelude.{nat_lt}
 use Rattle.std.specs.List.{list_all, flat_map}
-use Rattle.std.proofs.lemmas.Bool.{eqb-true, eq-eqb}
+use Rattle.std.proofs.lemmas.Bool.{and_parts, eqb-true, eq-eqb}
 use Rattle.std.proofs.lemmas.Bool.Decides.{nat_tests}
 use Rattle.std.proofs.lemmas.List.{append_assoc, append-nil, length-append, length-map}
 use Rattle.std.proofs.lemmas.List.Elements.{All-head, All-tail}
@@ -13,7 +13,7 @@ use Rattle.sel_algebra.specs.declared.vocabulary.Symbol.{Symbol}
 use Rattle.schema_graph.specs.declared.edge.SchemaEdge.{SchemaEdge}
 use Rattle.query_terms.specs.Store.{same_bool}
 use Rattle.query_terms.specs.Values.{ConjunctValue, RuleValue, QueryValue, occurs, differ, arity_built, arity_of, have_heads, has_class, has_edge, is_word, is_conjunct, has_heads}
-use Rattle.query_terms.proofs.SpanLemmas.{both, and_true}
+use Rattle.query_terms.proofs.SpanLemmas.{and_true}
 use Rattle.workload_text.specs.declared.sorts.Sort.{Sort}
 use Rattle.workload_text.specs.declared.sorts.Sort.TheVariants.{Edge, Query, Rule, Conjunct, End}
 use Rattle.workload_text.specs.Values.{HeadValue, WorkValue, IsConjunct, IsRule, IsQuery, IsWork, labels_of}
@@ -39,20 +39,20 @@ module _ (edges : List SchemaEdge) (few_edges : length edges ≤ 128) where
 
   word-form : (w : List Symbol) → is_word (length edges) w ≡ true → is_path (map written w) ≡ true
   word-form w is =
-      and_true (ap (nat_lt 0) (length-map w written) ∙ (both (nat_lt 0 (length w)) (list_all (has_edge (length edges)) w) is).0)
-      (list_all-map is_symbol (has_edge (length edges)) written symbol-form w (both (nat_lt 0 (length w)) (list_all (has_edge (length edges)) w) is).1)
+      and_true (ap (nat_lt 0) (length-map w written) ∙ (and_parts (nat_lt 0 (length w)) (list_all (has_edge (length edges)) w) is).0)
+      (list_all-map is_symbol (has_edge (length edges)) written symbol-form w (and_parts (nat_lt 0 (length w)) (list_all (has_edge (length edges)) w) is).1)
 
   word-back : (w : List Symbol) → is_word (length edges) w ≡ true → map symbol_of (map written w) ≡ w
-  word-back w is = map-back (has_edge (length edges)) written symbol_of symbol-back w (both (nat_lt 0 (length w)) (list_all (has_edge (length edges)) w) is).1
+  word-back w is = map-back (has_edge (length edges)) written symbol_of symbol-back w (and_parts (nat_lt 0 (length w)) (list_all (has_edge (length edges)) w) is).1
 
   words-form : (c : ConjunctValue) → is_conjunct (length edges) c ≡ true → is_union (map (map written) c.words) ≡ true
   words-form c is =
-      and_true (ap (nat_lt 0) (length-map c.words (map written)) ∙ (both (nat_lt 0 (length c.words)) (list_all (is_word (length edges)) c.words) is).0)
-      (list_all-map is_path (is_word (length edges)) (map written) word-form c.words (both (nat_lt 0 (length c.words)) (list_all (is_word (length edges)) c.words) is).1)
+      and_true (ap (nat_lt 0) (length-map c.words (map written)) ∙ (and_parts (nat_lt 0 (length c.words)) (list_all (is_word (length edges)) c.words) is).0)
+      (list_all-map is_path (is_word (length edges)) (map written) word-form c.words (and_parts (nat_lt 0 (length c.words)) (list_all (is_word (length edges)) c.words) is).1)
 
   words-back : (c : ConjunctValue) → is_conjunct (length edges) c ≡ true → symbols_of (map (map written) c.words) ≡ c.words
   words-back c is =
-      map-back (is_word (length edges)) (map written) (map symbol_of) word-back c.words (both (nat_lt 0 (length c.words)) (list_all (is_word (length edges)) c.words) is).1
+      map-back (is_word (length edges)) (map written) (map symbol_of) word-back c.words (and_parts (nat_lt 0 (length c.words)) (list_all (is_word (length edges)) c.words) is).1
 
 -- ---- conjuncts
 
@@ -98,7 +98,7 @@ module _ (h : HeadValue) (queries : List QueryValue) (asked : Asked) (rules : Li
       → Leads (rule_at (Some Conjunct) h queries asked rules heads done) (map conjunct_line cs) (rule_at (Some Conjunct) h queries asked rules heads (done ++ cs))
   conjuncts-pass done [] each built few = (tt, ap (rule_at (Some Conjunct) h queries asked rules heads) (sym (append-nil done)))
   conjuncts-pass done (c ∷ cs) each built few =
-      let parts = both (is_conjunct (length h.schema.edges) c) (list_all (is_conjunct (length h.schema.edges)) cs) built in
+      let parts = and_parts (is_conjunct (length h.schema.edges) c) (list_all (is_conjunct (length h.schema.edges)) cs) built in
       let step = conjunct-step (Some Conjunct) c done (refl, refl) refl (All-head (IsConjunct h.schema.edges) c cs each) parts.0 (omega (arith, few)) in
       let others = conjuncts-pass (done ++ c ∷ []) cs (All-tail (IsConjunct h.schema.edges) c cs each) parts.1 (omega (arith, few, length-append done (c ∷ []))) in
       Leads-cons (rule_at (Some Conjunct) h queries asked rules heads done) _ _ (conjunct_line c) (map conjunct_line cs) step.0 step.1 step.2
@@ -165,7 +165,7 @@ module _ (h : HeadValue) (qs : List QueryValue) (a : Asked) (few_edges : length 
   rule-lines-pass last s done heads [] may is own rule same few = absurd (true≢false (sym rule.built))
   rule-lines-pass last s done heads (c ∷ cs) may is own rule same few =
       let all = three (nat_lt 0 (length (c ∷ cs))) (list_all (is_conjunct (length edges)) (c ∷ cs)) (has_heads (record { heads = heads; conjuncts = c ∷ cs })) rule.built in
-      let each = both (is_conjunct (length edges) c) (list_all (is_conjunct (length edges)) cs) all.1 in
+      let each = and_parts (is_conjunct (length edges) c) (list_all (is_conjunct (length edges)) cs) all.1 in
       let head = three (arity_built (length heads)) (differ heads) (list_all (occurs (c ∷ cs)) heads) all.2 in
       let line = rule-line last s done heads may is own rule.small head.0 head.1 same few in
       let one = conjunct-step h qs a done heads few_edges (Some Rule) c [] (refl, refl) refl (All-head (IsConjunct edges) c cs rule.each) each.0 (omega arith) in
@@ -194,7 +194,7 @@ module _ (h : HeadValue) (qs : List QueryValue) (a : Asked) (few_edges : length 
   rules-pass n s done [] own is each same others few = (s, (tt, refl), subst (λ rs. AfterRules Conjunct h qs a rs s) (sym (append-nil done)) is)
   rules-pass n s done (r ∷ rs) own is each same others few =
       let rule = All-head (IsRule edges) r rs each in
-      let heads = both (length r.heads == n) (have_heads n rs) others in
+      let heads = and_parts (length r.heads == n) (have_heads n rs) others in
       let t = rule_at (Some Conjunct) h qs a done r.heads r.conjuncts in
       let first = rule-pass n Conjunct s done r own (refl, refl) is rule heads.0 same (omega (arith, few)) in
       let more : have_heads n (done ++ r ∷ []) ≡ true = list_all-append (λ k. length k.heads == n) done (r ∷ []) ∙ and_true same (and_true heads.0 refl) in
@@ -278,7 +278,7 @@ module _ (h : HeadValue) (few_edges : length h.schema.edges ≤ 128) where
       let rule = All-head (IsRule h.schema.edges) r rs each in
       let heads : AreHeads h (asked_of q) (length r.heads) = subst (λ ks. AreHeads h (asked_of q) (arity_of ks)) same (heads-of q own) in
       let all : have_heads (length r.heads) (r ∷ rs) ≡ true = subst (λ ks. have_heads (arity_of ks) ks ≡ true) same own.arity in
-      let count = both (length r.heads == length r.heads) (have_heads (length r.heads) rs) all in
+      let count = and_parts (length r.heads == length r.heads) (have_heads (length r.heads) rs) all in
       let size : length (r ∷ rs) ≤ 4 = subst (λ ks. length ks ≤ 4) same own.few in
       let one = rule_at (Some Conjunct) h done (asked_of q) [] r.heads r.conjuncts in
       let first = rule-pass h done (asked_of q) few_edges (length r.heads) Query begun [] r heads (refl, refl)

@@ -2,7 +2,7 @@
 use Rattle.std.proofs.Common.{◌≡◌, ℕ, if◌then◌else◌, ◌+◌, ◌<◌, ◌≤◌, ◌^◌, Bool, true, false, not, ◌&&◌, ◌||◌, ◌==◌, decimal, Some, is_some, Ok, Err, List, [], ◌∷◌, ◌++◌, length, map, get_or, All, refl, sym, ap, subst, ◌∙◌, arith}
 use Rattle.std.specs.Prelude.{⊤, nat_lt}
 use Rattle.std.specs.List.{list_all, flat_map}
-use Rattle.std.proofs.lemmas.Bool.{eqb-true}
+use Rattle.std.proofs.lemmas.Bool.{and_parts, eqb-true}
 use Rattle.std.proofs.lemmas.Bool.Decides.{nat_tests}
 use Rattle.std.proofs.lemmas.List.{append_assoc, append-nil, length-append, length-map, map-append}
 use Rattle.std.proofs.lemmas.List.Elements.{All-nil, All-push}
@@ -16,7 +16,7 @@ use Rattle.sel_algebra.specs.declared.vocabulary.Kind.{Kind}
 use Rattle.schema_graph.specs.declared.edge.SchemaEdge.{SchemaEdge}
 use Rattle.query_terms.specs.Store.{same_bool}
 use Rattle.query_terms.specs.Values.{ConjunctValue, RuleValue, QueryValue, differ, arity_built, arity_of, have_heads, has_class, has_edge, is_word, is_conjunct}
-use Rattle.query_terms.proofs.SpanLemmas.{both, and_true}
+use Rattle.query_terms.proofs.SpanLemmas.{and_true}
 use Rattle.workload_text.specs.declared.sorts.Sort.TheVariants.{First, Label, NodeType, Edge, Query, Rule, Conjunct, End}
 use Rattle.workload_text.specs.Values.{HeadValue, WorkValue, IsConjunct, IsRule, IsQuery, IsWork, is_short_word, is_short_union}
 use Rattle.workload_text.specs.Lines.{WorkLine, Asked, WrittenSymbol, is_line, is_symbol, is_path, is_union, has_heads_of, has_classes_of, written, label_lines, type_lines, edge_line, head_lines, conjunct_line, rule_lines, query_lines, queries_lines, work_lines, work_text, lines_text, IsReading}
@@ -141,8 +141,8 @@ heads-back : (heads : List (List ℕ)) → list_all is_canonical heads ≡ true 
     → map decimal (map number heads) ≡ heads
 heads-back [] form small = refl
 heads-back (word ∷ heads) form small =
-    let (is, others) = both (is_canonical word) (list_all is_canonical heads) form in
-    let (low, lows) = both (nat_lt (number word) 16) (list_all (λ v. nat_lt v 16) (map number heads)) small in
+    let (is, others) = and_parts (is_canonical word) (list_all is_canonical heads) form in
+    let (low, lows) = and_parts (nat_lt (number word) 16) (list_all (λ v. nat_lt v 16) (map number heads)) small in
     let below : number word < 16 = small-below (number word) 16 low in
     λ i. number-back word is (omega (arith, below)) i ∷ heads-back heads others lows i
 
@@ -150,24 +150,24 @@ module _ (edges : ℕ) (few : edges ≤ 128) where
   symbols-back : (w : List WrittenSymbol) → list_all is_symbol w ≡ true → list_all (has_edge edges) (map symbol_of w) ≡ true → map written (map symbol_of w) ≡ w
   symbols-back [] form small = refl
   symbols-back (x ∷ w) form small =
-      let (is, others) = both (is_symbol x) (list_all is_symbol w) form in
-      let (low, lows) = both (nat_lt (number x.number) edges) (list_all (has_edge edges) (map symbol_of w)) small in
+      let (is, others) = and_parts (is_symbol x) (list_all is_symbol w) form in
+      let (low, lows) = and_parts (nat_lt (number x.number) edges) (list_all (has_edge edges) (map symbol_of w)) small in
       let below : number x.number < edges = small-below (number x.number) edges low in
       λ i. record { back = x.back; number = number-back x.number is (omega (arith, below, few)) i } ∷ symbols-back w others lows i
 
   word-back : (w : List WrittenSymbol) → is_path w ≡ true → is_short_word edges (map symbol_of w) ≡ true
       → (map written (map symbol_of w) ≡ w) × (is_word edges (map symbol_of w) ≡ true)
   word-back w form short =
-      let (some, symbols) = both (nat_lt 0 (length w)) (list_all is_symbol w) form in
-      let (_, low) = both _ (list_all (has_edge edges) (map symbol_of w)) short in
+      let (some, symbols) = and_parts (nat_lt 0 (length w)) (list_all is_symbol w) form in
+      let (_, low) = and_parts _ (list_all (has_edge edges) (map symbol_of w)) short in
       (symbols-back w symbols low, and_true (ap (nat_lt 0) (length-map w symbol_of) ∙ some) low)
 
   words-back : (ws : List (List WrittenSymbol)) → list_all is_path ws ≡ true → list_all (is_short_word edges) (symbols_of ws) ≡ true
       → (map (map written) (symbols_of ws) ≡ ws) × (list_all (is_word edges) (symbols_of ws) ≡ true)
   words-back [] form short = (refl, refl)
   words-back (w ∷ ws) form short =
-      let (is, others) = both (is_path w) (list_all is_path ws) form in
-      let (low, lows) = both (is_short_word edges (map symbol_of w)) (list_all (is_short_word edges) (symbols_of ws)) short in
+      let (is, others) = and_parts (is_path w) (list_all is_path ws) form in
+      let (low, lows) = and_parts (is_short_word edges (map symbol_of w)) (list_all (is_short_word edges) (symbols_of ws)) short in
       let one = word-back w is low in
       let rest = words-back ws others lows in
       (λ i. one.0 i ∷ rest.0 i, and_true one.1 rest.1)
@@ -203,7 +203,7 @@ asked_lines-more h qs a rs r =
 
 arity_of-more : (n : ℕ) (rs : List RuleValue) (r : RuleValue) → have_heads n rs ≡ true → length r.heads ≡ n → arity_of (rs ++ r ∷ []) ≡ n
 arity_of-more n [] r same last = last
-arity_of-more n (p ∷ rs) r same last = eqb-true (length p.heads) n (both (length p.heads == n) (have_heads n rs) same).0
+arity_of-more n (p ∷ rs) r same last = eqb-true (length p.heads) n (and_parts (length p.heads == n) (have_heads n rs) same).0
 
 same_bool-same : (a b : Bool) → same_bool a b ≡ true → a ≡ b
 same_bool-same true true is = refl
@@ -214,7 +214,7 @@ same_bool-same false false is = refl
 some-class : (format : ℕ) (a : Asked) → has_classes_of format a ≡ true → format ≡ 1 → is_some a.class ≡ true
 some-class format a is one =
     let classes : (is_some a.class && is_some a.wide) ≡ true = rw one at is in
-    (both (is_some a.class) (is_some a.wide) classes).0
+    (and_parts (is_some a.class) (is_some a.wide) classes).0
 
 module _ (ls : List WorkLine) (s : Sofar) (is : BeforeConjunct ls s) (some : 0 < length s.conjuncts) (occur : heads_occur s ≡ true) where
   abbrev edges : List SchemaEdge
@@ -393,7 +393,7 @@ query-said : (ls : List WorkLine) (s : Sofar) (n : List ℕ) (a : Asked) → is_
     → Good (ls ++ QueryLine n a ∷ []) (after s (QueryLine n a))
 query-said ls s n a form within b =
     let count : ℕ = length (ended_queries s) in
-    let (canon, classes) = both (is_canonical n) (has_classes_of s.head.format a) form in
+    let (canon, classes) = and_parts (is_canonical n) (has_classes_of s.head.format a) form in
     let (room, next, wide) = three (nat_lt count 1000) (number n == count) (same_bool (is_some a.class) (is_some a.wide)) within in
     let below : count < 1000 = small-below count 1000 room in
     let same : number n ≡ count = eqb-true (number n) count next in
@@ -420,8 +420,8 @@ rule-said : (ls : List WorkLine) (s : Sofar) (heads : List (List ℕ)) → is_li
 rule-said ls s heads form within b =
     let rules : List RuleValue = ended_rules s in
     let numbers : List ℕ = map number heads in
-    let (_, canon) = both (has_heads_of s.head.format (length heads)) (list_all is_canonical heads) form in
-    let (others, class) = both (nat_lt (length rules) 4 && are_small_heads numbers && have_heads (length numbers) rules) (same_bool (is_some s.asked.class) (length numbers == 2)) within in
+    let (_, canon) = and_parts (has_heads_of s.head.format (length heads)) (list_all is_canonical heads) form in
+    let (others, class) = and_parts (nat_lt (length rules) 4 && are_small_heads numbers && have_heads (length numbers) rules) (same_bool (is_some s.asked.class) (length numbers == 2)) within in
     let (room, heads-small, same) = three (nat_lt (length rules) 4) (are_small_heads numbers) (have_heads (length numbers) rules) others in
     let (small, built, apart) = three (list_all (λ v. nat_lt v 16) numbers) (arity_built (length numbers)) (differ numbers) heads-small in
     let back : heads ≡ map decimal numbers = sym (heads-back heads canon small) in
@@ -457,12 +457,12 @@ conjunct-read : (s : Sofar) (src trg : List ℕ) (star : Bool) (words : List (Li
 conjunct-read s src trg star words few form is =
     let edges : ℕ = length s.head.schema.edges in
     let (canon-src, canon-trg, union) = three (is_canonical src) (is_canonical trg) (is_union words) form in
-    let (some, paths) = both (nat_lt 0 (length words)) (list_all is_path words) union in
-    let (ends, short) = both (nat_lt (length s.conjuncts) 8 && nat_lt (number src) 16 && nat_lt (number trg) 16) (is_short_union edges (symbols_of words)) is.limits in
+    let (some, paths) = and_parts (nat_lt 0 (length words)) (list_all is_path words) union in
+    let (ends, short) = and_parts (nat_lt (length s.conjuncts) 8 && nat_lt (number src) 16 && nat_lt (number trg) 16) (is_short_union edges (symbols_of words)) is.limits in
     let (room, low-src, low-trg) = three (nat_lt (length s.conjuncts) 8) (nat_lt (number src) 16) (nat_lt (number trg) 16) ends in
     let small-src : number src < 16 = small-below (number src) 16 low-src in
     let small-trg : number trg < 16 = small-below (number trg) 16 low-trg in
-    let (_, short-words) = both _ (list_all (is_short_word edges) (symbols_of words)) short in
+    let (_, short-words) = and_parts _ (list_all (is_short_word edges) (symbols_of words)) short in
     let back = words-back edges few words paths short-words in (
       λ i. ConjunctLine (number-back src canon-src (omega (arith, small-src)) i) (number-back trg canon-trg (omega (arith, small-trg)) i) star (back.0 i),
       record { src = small-src; trg = small-trg; short = short; chains = is.chains; same_ends = is.ends; starred = is.returns },

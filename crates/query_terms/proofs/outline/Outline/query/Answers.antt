@@ -1,4 +1,5 @@
 use Rattle.std.proofs.Common.{◌≡◌, ◌∙◌, true, List, length, map, nat_lt, sym, ap, subst}
+use Rattle.std.proofs.lemmas.Bool.{and_parts}
 use Rattle.std.proofs.lemmas.List.Folds.{list_all-map}
 use Rattle.std.specs.List.{list_all}
 use Rattle.query_terms.specs.declared.terms.Conjunct.{Conjunct}
@@ -6,7 +7,7 @@ use Rattle.query_terms.specs.Values.{ConjunctValue, is_conjunct, conjuncts_of}
 use Rattle.query_terms.specs.Spans.{lies}
 use Rattle.query_terms.specs.Lists.{conjuncts_in, rules_in}
 use Rattle.query_terms.specs.Numbering.{numbered}
-use Rattle.query_terms.proofs.SpanLemmas.{both, covers-lie}
+use Rattle.query_terms.proofs.SpanLemmas.{covers-lie}
 use Rattle.query_terms.proofs.QueryLemmas.{conjuncts_are, conjuncts_keep}
 use Rattle.query_terms.proofs.TreeLemmas.{are_numbered}
 use Rattle.query_terms.proofs.OutlineLemmas.{after_conjuncts-terms}
@@ -25,7 +26,7 @@ number_terms-requires-clause-conjuncts c =
     let n = length s.labels.now in
     let rules = rules_in s.symbols.now s.words.now s.conjuncts.now s.rules.now in
     subst (λ (cs : List ConjunctValue). list_all (is_conjunct n) cs ≡ true) (conjuncts_are s.symbols.now s.words.now s.conjuncts.now s.rules.now is.conjuncts_cover)
-    (conjuncts_keep n rules (both _ _ (both _ _ is.rules_are).0).1)
+    (conjuncts_keep n rules (and_parts _ _ (and_parts _ _ is.rules_are).0).1)
 
 pub invariant_of-result : goal.invariant_of-result
 invariant_of-result c =
@@ -34,7 +35,7 @@ invariant_of-result c =
     let labels = s.labels.now in
     let n = length labels in
     let rules = rules_in s.symbols.now s.words.now s.conjuncts.now s.rules.now in
-    let keep = conjuncts_keep n rules (both _ _ (both _ _ is.rules_are).0).1 in
+    let keep = conjuncts_keep n rules (and_parts _ _ (and_parts _ _ is.rules_are).0).1 in
     let same = conjuncts_are s.symbols.now s.words.now s.conjuncts.now s.rules.now is.conjuncts_cover in
     let cs = conjuncts_in s.symbols.now s.words.now s.conjuncts.now in
     let all = subst (λ (ds : List ConjunctValue). list_all (is_conjunct n) ds ≡ true) same keep in
