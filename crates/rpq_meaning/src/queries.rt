@@ -2,11 +2,9 @@
 
 ghost use Rattle.std.specs.Prelude.{◌≡◌, ◌<◌, ◌↔◌, ℕ, List, length, slice_get, Some, true, IfOk};
 ghost use Rattle.std.specs.List.{All, Contains, list_all};
-ghost use Rattle.gm_text.specs.declared.lists.Span.{Span};
 ghost use Rattle.graph_text.specs.Pairs.{IsAscending};
 ghost use Rattle.graph_text.specs.Rows.{IsRising, values_of, is_row};
 ghost use Rattle.query_terms.specs.declared.terms.Conjunct.{Conjunct};
-ghost use Rattle.query_terms.specs.Spans.{cut, lies};
 ghost use Rattle.query_terms.specs.Trees.{tree_at};
 ghost use Rattle.query_terms.specs.Values.{ConjunctValue, conjuncts_of, arity_of};
 ghost use Rattle.query_terms.specs.View.{query_value};
@@ -17,7 +15,7 @@ ghost use Rattle.rpq_meaning.specs.Joins.{IsRuleOf, rows_of};
 use crate::mappings::{mappings, push_rows};
 use crate::tables::{tables_of, term_pairs};
 use graph_text::{Graph, Pairs, Row, Rows};
-use query_terms::{Conjunct, Query, Rule, Span};
+use query_terms::{Conjunct, Query, Rule, part_of};
 use std::alloc::{AllocError, Global};
 
 /// The pairs of numbers between which the words of a conjunct lead over the graph, repeated where it is starred. These
@@ -72,13 +70,4 @@ fn rows_of(
         push_rows(&mut rows, all.as_slice(), &rule.heads)?;
     }
     Ok(rows)
-}
-
-/// A part of the conjuncts.
-fn part_of(conjuncts: &[Conjunct], span: Span) -> &[Conjunct]
-    requires { lies (length conjuncts.now) span ≡ true }
-    ensures { result.now ≡ cut conjuncts.now span }
-{
-    let from = &conjuncts[span.first as usize..];
-    &from[..span.count as usize]
 }
