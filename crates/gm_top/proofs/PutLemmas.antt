@@ -309,12 +309,18 @@ PutSoFar-created old now calls calls_now name kept gained called empty =
     subst (λ (bytes : List ℕ). PutSoFar old now calls calls_now name bytes []) (sym empty) (PutSoFar-none old now calls calls_now name gained called)
 
 -- one more text was put
-pub PutSoFar-more : (old mid new : Option FileList) (calls calls_mid calls_new : ℕ) (name before after text more all : List ℕ)
+PutSoFar-more : (old mid new : Option FileList) (calls calls_mid calls_new : ℕ) (name before after text more all : List ℕ)
     → PutSoFar old mid calls calls_mid name before text → PutsText mid new calls_mid calls_new before after more
     → all ≡ text ++ more → PutSoFar old new calls calls_new name after all
 PutSoFar-more old mid new calls calls_mid calls_new name before after text more all put then same =
     let now = Gained-Puts old mid new name put.done before after more text put.whole put.gained then.puts in
     record { done = now.0; whole = now.1 ∙ sym same; gained = now.2; called = CallsToPut-more _ _ _ [] before after text more all put.called then.called same }
+
+-- a whole text was put
+pub PutSoFar-whole : (old made now : Option FileList) (calls calls_made calls_now : ℕ) (name before after text : List ℕ) → Gained old made ((name, []) ∷ [])
+    → calls_made ≡ raised calls 1 → before ≡ [] → PutsText made now calls_made calls_now before after text → PutSoFar old now calls calls_now name after text
+PutSoFar-whole old made now calls calls_made calls_now name before after text gained called empty put =
+    PutSoFar-more old made now calls calls_made calls_now name before after [] text text (PutSoFar-created old made calls calls_made name before gained called empty) put refl
 
 -- a put failed of what was kept and of one more text, with which the text of the file begins
 pub PutSoFar-failed : (old mid new : Option FileList) (calls calls_mid calls_new : ℕ) (name before text more rest all : List ℕ)
@@ -329,13 +335,6 @@ PutSoFar-failed old mid new calls calls_mid calls_new name before text more rest
       GainedPart-PutsPart old mid new name put.done (before ++ more) rest all put.gained part.puts parts,
       omega (arith, part.called, put.called.each_piece, put.called.kept, ap length is, length-append (text ++ more) rest, length-append text more),
     )
-
--- nothing more was put, and the text of the file begins with what was
-pub PutSoFar-stopped : (old now : Option FileList) (calls calls_now : ℕ) (name kept text rest all : List ℕ) → PutSoFar old now calls calls_now name kept text
-    → all ≡ text ++ rest → GainedPart old now ((name, all) ∷ []) × (calls_now ≤ raised calls (file_calls (length all)))
-PutSoFar-stopped old now calls calls_now name kept text rest all put is =
-    PutSoFar-failed old now now calls calls_now calls_now name kept text [] rest all put (record { puts = PutsPart-none now (kept ++ []); called = omega arith })
-    (is ∙ ap (λ (bytes : List ℕ). bytes ++ rest) (sym (append-nil text)))
 
 -- what was kept was written
 pub PutSoFar-flushed : (old mid new : Option FileList) (calls calls_mid calls_new : ℕ) (name kept text : List ℕ) → PutSoFar old mid calls calls_mid name kept text

@@ -84,7 +84,7 @@ module _ (config : ConfigValue) (seed : ℕ) where
       (rest.0, ap (queries_text config seed) same ∙ rest.1)
 
   -- the text is that of the head, of the queries and of the last line
-  pub workload_text-parts : work_text (workload_of config seed)
+  workload_text-parts : work_text (workload_of config seed)
       ≡ (lines_text (head_lines (head_of config)) ++ all_queries_text config seed) ++ lines_text (EndLine ∷ [])
   workload_text-parts =
       let head = head_lines (head_of config) in
@@ -92,6 +92,11 @@ module _ (config : ConfigValue) (seed : ℕ) where
       lines_text-append head (queries ++ EndLine ∷ [])
       ∙ ap (λ text. lines_text head ++ text) (lines_text-append queries (EndLine ∷ []))
       ∙ sym (append_assoc (lines_text head) (lines_text queries) (lines_text (EndLine ∷ [])))
+
+  -- the same, of texts that are made
+  pub workload_text-of : (head end : List ℕ) → head ≡ lines_text (head_lines (head_of config)) → end ≡ lines_text (EndLine ∷ [])
+      → work_text (workload_of config seed) ≡ (head ++ all_queries_text config seed) ++ end
+  workload_text-of head end head_is end_is = workload_text-parts ∙ (λ k. (sym head_is k ++ all_queries_text config seed) ++ sym end_is k)
 
   -- ---- classes
 
@@ -164,7 +169,3 @@ pub memory-only : {T : Type 0} (result : Result T Outcome) (error : DrawError) �
     → IfErr result (λ answer. answer ≡ outcome.NoMemory)
 memory-only (Ok x) error none is = tt
 memory-only (Err answer) error none is = is ∙ ap draw_outcome none
-
--- what is known of the lent configuration and seed is known of those that lend them
-pub lent : (P : ConfigValue → ℕ → Type 0) (config own : ConfigValue) (seed number : ℕ) → config ≡ own → seed ≡ number → P config seed → P own number
-lent P config own seed number same equal p = subst (P own) equal (subst (λ (c : ConfigValue). P c seed) same p)

@@ -6,13 +6,13 @@ ghost use Rattle.gm_io.specs.Count.{Rose};
 ghost use Rattle.gm_files.specs.Calls.{piece_most};
 ghost use Rattle.query_draw.specs.Query.{has_query, query_of};
 ghost use Rattle.workload_text.specs.Head.{head_of};
-ghost use Rattle.workload_text.specs.Lines.{lines_text, head_lines, query_lines};
+ghost use Rattle.workload_text.specs.Lines.{lines_text, head_lines, query_lines, work_text};
 ghost use Rattle.workload_text.specs.Lines.WorkLine.{EndLine};
 ghost use Rattle.gm_top.specs.Generation.{CanDraw, IsAcceptedFor};
 ghost use Rattle.gm_top.specs.Outcome.{is_of_writing};
 ghost use Rattle.gm_top.specs.Outputs.{workload, MakesFiles, MakesPart, TakesCalls, TakesCallsWithin};
 ghost use Rattle.gm_top.specs.Putting.{PutsText, PutsTextPart};
-ghost use Rattle.gm_top.specs.Workload.{all_queries_text, queries_of};
+ghost use Rattle.gm_top.specs.Workload.{all_queries_text, queries_of, workload_of};
 
 use crate::generation::Generation;
 use crate::outcomes::Outcome;
@@ -55,9 +55,7 @@ pub(crate) fn write_workload<F: Folder>(
     let head = head_text(alloc, generation)?;
     let end = end_text(alloc)?;
     folder.create("workload.txt")?;
-    put_text(pieces, folder, &head)?;
-    put_queries(alloc, generation, outlines, pieces, folder)?;
-    put_text(pieces, folder, &end)?;
+    put_workload(alloc, generation, &head, &end, outlines, pieces, folder)?;
     pieces.flush(folder)?;
     folder.finish()?;
     Ok(())
@@ -80,6 +78,38 @@ fn end_text(alloc: Global) -> Result<Vec<u8>, AllocError>
     let mut text = Vec::new(alloc);
     write_end(alloc, &mut text)?;
     Ok(text)
+}
+
+/// Puts the text of a workload into the last file, from the lines of its head to its last line, and keeps its queries.
+fn put_workload<F: Folder>(
+    alloc: Global,
+    generation: &Generation,
+    head: &[u8],
+    end: &[u8],
+    outlines: &mut Outlines<'_>,
+    pieces: &mut Pieces,
+    folder: &mut F,
+) -> Result<(), Outcome>
+    requires head { head.now ≡ lines_text (head_lines (head_of generation.now.config)) }
+    requires end { end.now ≡ lines_text (EndLine ∷ []) }
+    requires none { outlines.old ≡ [] }
+    requires drawable { CanDraw generation.now.config generation.now.seed }
+    requires short { length pieces.old < piece_most }
+    requires unfinished { F.unfinished folder.old ≡ true }
+    ensures put { OnOk result (PutsText (F.files folder.old) (F.files folder.new) (F.calls folder.old) (F.calls folder.new)
+        pieces.old pieces.new (work_text (workload_of generation.now.config generation.now.seed))) }
+    ensures kept { OnOk result (outlines.new ≡ queries_of generation.now.config generation.now.seed) }
+    ensures part { OnErr result (PutsTextPart (F.files folder.old) (F.files folder.new) (F.calls folder.old) (F.calls folder.new)
+        pieces.old (work_text (workload_of generation.now.config generation.now.seed))) }
+    ensures unfinished { F.unfinished folder.new ≡ true }
+    ensures stops { IfErr result (λ outcome. IsTrue (is_of_writing outcome)) }
+    ensures fault { IsErrOf result Outcome.WriteFault → Rose (F.faults folder.old) (F.faults folder.new) }
+    ensures faults { ¬ IsErrOf result Outcome.WriteFault → F.faults folder.new ≡ F.faults folder.old }
+{
+    put_text(pieces, folder, head)?;
+    put_queries(alloc, generation, outlines, pieces, folder)?;
+    put_text(pieces, folder, end)?;
+    Ok(())
 }
 
 /// Puts the lines of the drawn queries into the last file, and keeps the queries.

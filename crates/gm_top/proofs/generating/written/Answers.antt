@@ -1,10 +1,9 @@
 use Rattle.std.proofs.Common.{[], ◌∷◌}
 use Rattle.gm_top.specs.declared.work.Work.TheVariants.{Files}
 use Rattle.gm_top.specs.Workload.{queries_of, workload_of}
-use Rattle.gm_top.specs.Outputs.{graph, workload, work_outputs, outputs_of, MakesFiles, MakesPart, TakesCalls, TakesCallsWithin}
+use Rattle.gm_top.specs.Outputs.{graph, workload, work_outputs, outputs_of}
 use Rattle.gm_top.proofs.PutLemmas.{KeepsFiles-same}
 use Rattle.gm_top.proofs.GraphLemmas.{OnErr-all}
-use Rattle.gm_top.proofs.WorkloadLemmas.{lent}
 use Rattle.gm_top.proofs.OutputLemmas.{MakesFiles-append, MakesPart-append, MakesPart-longer, MakesPart-none}
 use Rattle.gm_top.proofs.OutputLemmas.{TakesCalls-append, TakesCallsWithin-append, TakesCallsWithin-longer, TakesCallsWithin-none}
 use Rattle.gm_top.proofs.LawLemmas.{AreFilesOf-some, outputs-accepted}
@@ -24,27 +23,21 @@ returns-in_err-pieces-clause-part_calls g c =
 pub returns-in_err-write_graph-clause-part : goal.returns-in_err-write_graph-clause-part
 returns-in_err-write_graph-clause-part g c =
     let own = c.args.generation.now in
-    let part =
-    lent (λ config seed. MakesPart (graph config seed ∷ []) (g.F.Folder.files c.args.folder.now) (g.F.Folder.files c.write_graph.new.folder)) _ own.config _ own.seed c.config.ensures c.seed.ensures
-    c.in_err-write_graph.ensures.part in
+    let part = rw (c.config.ensures, c.seed.ensures) at c.in_err-write_graph.ensures.part in
     OnErr-all c.from_residual-in_err-write_graph.result _
     (MakesPart-longer (graph own.config own.seed ∷ []) (workload own.config own.seed ∷ work_outputs (workload_of own.config own.seed)) _ _ part (later-files own.config own.seed))
 
 pub returns-in_err-write_graph-clause-part_calls : goal.returns-in_err-write_graph-clause-part_calls
 returns-in_err-write_graph-clause-part_calls g c =
     let own = c.args.generation.now in
-    let part =
-    lent (λ config seed. TakesCallsWithin (graph config seed ∷ []) (g.F.Folder.calls c.args.folder.now) (g.F.Folder.calls c.write_graph.new.folder)) _ own.config _ own.seed c.config.ensures
-    c.seed.ensures c.in_err-write_graph.ensures.part_calls in
+    let part = rw (c.config.ensures, c.seed.ensures) at c.in_err-write_graph.ensures.part_calls in
     OnErr-all c.from_residual-in_err-write_graph.result _
     (TakesCallsWithin-longer (graph own.config own.seed ∷ []) (workload own.config own.seed ∷ work_outputs (workload_of own.config own.seed)) _ _ part (later-files own.config own.seed))
 
 pub returns-in_err-write_workload-clause-part : goal.returns-in_err-write_workload-clause-part
 returns-in_err-write_workload-clause-part g c =
     let own = c.args.generation.now in
-    let files =
-    lent (λ config seed. MakesFiles (graph config seed ∷ []) (g.F.Folder.files c.args.folder.now) (g.F.Folder.files c.write_graph.new.folder)) _ own.config _ own.seed c.config.ensures c.seed.ensures
-    c.in_ok-write_graph.ensures.files in
+    let files = rw (c.config.ensures, c.seed.ensures) at c.in_ok-write_graph.ensures.files in
     OnErr-all c.from_residual-in_err-write_workload.result _
     (MakesPart-longer (graph own.config own.seed ∷ workload own.config own.seed ∷ []) (work_outputs (workload_of own.config own.seed)) _ _
     (MakesPart-append (graph own.config own.seed ∷ []) (workload own.config own.seed ∷ []) _ _ _ files c.in_err-write_workload.ensures.part)
@@ -53,9 +46,7 @@ returns-in_err-write_workload-clause-part g c =
 pub returns-in_err-write_workload-clause-part_calls : goal.returns-in_err-write_workload-clause-part_calls
 returns-in_err-write_workload-clause-part_calls g c =
     let own = c.args.generation.now in
-    let calls =
-    lent (λ config seed. TakesCalls (graph config seed ∷ []) (g.F.Folder.calls c.args.folder.now) (g.F.Folder.calls c.write_graph.new.folder)) _ own.config _ own.seed c.config.ensures c.seed.ensures
-    c.in_ok-write_graph.ensures.calls in
+    let calls = rw (c.config.ensures, c.seed.ensures) at c.in_ok-write_graph.ensures.calls in
     OnErr-all c.from_residual-in_err-write_workload.result _
     (TakesCallsWithin-longer (graph own.config own.seed ∷ workload own.config own.seed ∷ []) (work_outputs (workload_of own.config own.seed)) _ _
     (TakesCallsWithin-append (graph own.config own.seed ∷ []) (workload own.config own.seed ∷ []) _ _ _ calls c.in_err-write_workload.ensures.part_calls)
@@ -64,9 +55,7 @@ returns-in_err-write_workload-clause-part_calls g c =
 pub returns-in_err-write_queries-clause-part : goal.returns-in_err-write_queries-clause-part
 returns-in_err-write_queries-clause-part g c =
     let own = c.args.generation.now in
-    let files =
-    lent (λ config seed. MakesFiles (graph config seed ∷ []) (g.F.Folder.files c.args.folder.now) (g.F.Folder.files c.write_graph.new.folder)) _ own.config _ own.seed c.config.ensures c.seed.ensures
-    c.in_ok-write_graph.ensures.files in
+    let files = rw (c.config.ensures, c.seed.ensures) at c.in_ok-write_graph.ensures.files in
     let both = MakesFiles-append (graph own.config own.seed ∷ []) (workload own.config own.seed ∷ []) _ _ _ files c.in_ok-write_workload.ensures.files in
     OnErr-all c.from_residual-in_err-write_queries.result _
     (MakesPart-append (graph own.config own.seed ∷ workload own.config own.seed ∷ []) (work_outputs (workload_of own.config own.seed)) _ _ _ both c.in_err-write_queries.ensures.part)
@@ -74,9 +63,7 @@ returns-in_err-write_queries-clause-part g c =
 pub returns-in_err-write_queries-clause-part_calls : goal.returns-in_err-write_queries-clause-part_calls
 returns-in_err-write_queries-clause-part_calls g c =
     let own = c.args.generation.now in
-    let calls =
-    lent (λ config seed. TakesCalls (graph config seed ∷ []) (g.F.Folder.calls c.args.folder.now) (g.F.Folder.calls c.write_graph.new.folder)) _ own.config _ own.seed c.config.ensures c.seed.ensures
-    c.in_ok-write_graph.ensures.calls in
+    let calls = rw (c.config.ensures, c.seed.ensures) at c.in_ok-write_graph.ensures.calls in
     let both = TakesCalls-append (graph own.config own.seed ∷ []) (workload own.config own.seed ∷ []) _ _ _ calls c.in_ok-write_workload.ensures.calls in
     OnErr-all c.from_residual-in_err-write_queries.result _
     (TakesCallsWithin-append (graph own.config own.seed ∷ workload own.config own.seed ∷ []) (work_outputs (workload_of own.config own.seed)) _ _ _ both c.in_err-write_queries.ensures.part_calls)
@@ -84,17 +71,13 @@ returns-in_err-write_queries-clause-part_calls g c =
 pub returns-clause-files : goal.returns-clause-files
 returns-clause-files g c =
     let own = c.args.generation.now in
-    let files =
-    lent (λ config seed. MakesFiles (graph config seed ∷ []) (g.F.Folder.files c.args.folder.now) (g.F.Folder.files c.write_graph.new.folder)) _ own.config _ own.seed c.config.ensures c.seed.ensures
-    c.in_ok-write_graph.ensures.files in
+    let files = rw (c.config.ensures, c.seed.ensures) at c.in_ok-write_graph.ensures.files in
     let both = MakesFiles-append (graph own.config own.seed ∷ []) (workload own.config own.seed ∷ []) _ _ _ files c.in_ok-write_workload.ensures.files in
     MakesFiles-append (graph own.config own.seed ∷ workload own.config own.seed ∷ []) (work_outputs (workload_of own.config own.seed)) _ _ _ both c.in_ok-write_queries.ensures.files
 
 pub returns-clause-calls : goal.returns-clause-calls
 returns-clause-calls g c =
     let own = c.args.generation.now in
-    let calls =
-    lent (λ config seed. TakesCalls (graph config seed ∷ []) (g.F.Folder.calls c.args.folder.now) (g.F.Folder.calls c.write_graph.new.folder)) _ own.config _ own.seed c.config.ensures c.seed.ensures
-    c.in_ok-write_graph.ensures.calls in
+    let calls = rw (c.config.ensures, c.seed.ensures) at c.in_ok-write_graph.ensures.calls in
     let both = TakesCalls-append (graph own.config own.seed ∷ []) (workload own.config own.seed ∷ []) _ _ _ calls c.in_ok-write_workload.ensures.calls in
     TakesCalls-append (graph own.config own.seed ∷ workload own.config own.seed ∷ []) (work_outputs (workload_of own.config own.seed)) _ _ _ both c.in_ok-write_queries.ensures.calls

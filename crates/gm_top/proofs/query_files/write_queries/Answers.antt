@@ -1,4 +1,4 @@
-use Rattle.std.proofs.Common.{◌≡◌, ◌∙◌, ◌<◌, List, Some, length, slice_get, subst, sym, ap, refl, arith, rules}
+use Rattle.std.proofs.Common.{◌≡◌, ◌∙◌, ◌<◌, List, length, subst, sym, ap, refl, arith, rules}
 use Rattle.query_terms.specs.Values.{QueryValue}
 use Rattle.workload_text.specs.Head.{head_of}
 use Rattle.query_texts.proofs.RuleLemmas.{query-keeps}
@@ -37,8 +37,8 @@ write_kept-requires-clause-kept g c =
     let own = c.args.generation.now in
     let n = c.loop-number.number in
     let q = c.at.result.now in
-    let at = subst (λ (queries : List QueryValue). slice_get queries n ≡ Some q) c.requires.kept c.at.ensures in
-    query-keeps (workload_of own.config own.seed) c.in_ok-head.head n q (workload-kept own.config own.seed c.requires.accepted.rules c.requires.accepted.queries) (c.in_ok-head.ensures.value ∙ ap head_of c.config.ensures) at
+    let there = rw c.requires.kept at c.at.ensures in
+    query-keeps (workload_of own.config own.seed) c.in_ok-head.head n q (workload-kept own.config own.seed c.requires.accepted.rules c.requires.accepted.queries) (c.in_ok-head.ensures.value ∙ ap head_of c.config.ensures) there
 
 pub loop-number-preserved : goal.loop-number-preserved
 loop-number-preserved g c =
@@ -46,13 +46,13 @@ loop-number-preserved g c =
     let v = workload_of own.config own.seed in
     let n = c.loop-number.number in
     let q = c.at.result.now in
-    let at = subst (λ (queries : List QueryValue). slice_get queries n ≡ Some q) c.requires.kept c.at.ensures in
+    let there = rw c.requires.kept at c.at.ensures in
     let files = under-head (λ outputs. MakesFiles outputs (g.F.Folder.files c.loop-number.folder) (g.F.Folder.files c.write_kept.new.folder)) c.in_ok-head.head v.head n q (c.in_ok-head.ensures.value ∙ ap head_of c.config.ensures)
     c.in_ok-write_kept.ensures.files in
     let calls = under-head (λ outputs. TakesCalls outputs (g.F.Folder.calls c.loop-number.folder) (g.F.Folder.calls c.write_kept.new.folder)) c.in_ok-head.head v.head n q (c.in_ok-head.ensures.value ∙ ap head_of c.config.ensures)
     c.in_ok-write_kept.ensures.calls in record {
-      files = files-more v.head.labels v.queries n q at _ _ _ c.loop-number.invariant.files files;
-      calls = calls-more v.head.labels v.queries n q at _ _ _ c.loop-number.invariant.calls calls;
+      files = files-more v.head.labels v.queries n q there _ _ _ c.loop-number.invariant.files files;
+      calls = calls-more v.head.labels v.queries n q there _ _ _ c.loop-number.invariant.calls calls;
       finished = search rules;
       no_fault = search rules;
     }
@@ -63,10 +63,10 @@ returns-in_err-write_kept-clause-part g c =
     let v = workload_of own.config own.seed in
     let n = c.loop-number.number in
     let q = c.at.result.now in
-    let at = subst (λ (queries : List QueryValue). slice_get queries n ≡ Some q) c.requires.kept c.at.ensures in
+    let there = rw c.requires.kept at c.at.ensures in
     let part = under-head (λ outputs. MakesPart outputs (g.F.Folder.files c.loop-number.folder) (g.F.Folder.files c.write_kept.new.folder)) c.in_ok-head.head v.head n q (c.in_ok-head.ensures.value ∙ ap head_of c.config.ensures)
     c.in_err-write_kept.ensures.part in
-    OnErr-all c.from_residual-in_err-write_kept.result _ (part-more v.head.labels v.queries n q at _ _ _ c.loop-number.invariant.files part)
+    OnErr-all c.from_residual-in_err-write_kept.result _ (part-more v.head.labels v.queries n q there _ _ _ c.loop-number.invariant.files part)
 
 pub returns-in_err-write_kept-clause-part_calls : goal.returns-in_err-write_kept-clause-part_calls
 returns-in_err-write_kept-clause-part_calls g c =
@@ -74,10 +74,10 @@ returns-in_err-write_kept-clause-part_calls g c =
     let v = workload_of own.config own.seed in
     let n = c.loop-number.number in
     let q = c.at.result.now in
-    let at = subst (λ (queries : List QueryValue). slice_get queries n ≡ Some q) c.requires.kept c.at.ensures in
+    let there = rw c.requires.kept at c.at.ensures in
     let part = under-head (λ outputs. TakesCallsWithin outputs (g.F.Folder.calls c.loop-number.folder) (g.F.Folder.calls c.write_kept.new.folder)) c.in_ok-head.head v.head n q (c.in_ok-head.ensures.value ∙ ap head_of c.config.ensures)
     c.in_err-write_kept.ensures.part_calls in
-    OnErr-all c.from_residual-in_err-write_kept.result _ (part_calls-more v.head.labels v.queries n q at _ _ _ c.loop-number.invariant.calls part)
+    OnErr-all c.from_residual-in_err-write_kept.result _ (part_calls-more v.head.labels v.queries n q there _ _ _ c.loop-number.invariant.calls part)
 
 pub returns-clause-files : goal.returns-clause-files
 returns-clause-files g c =
