@@ -108,6 +108,33 @@ fn begins_with(alloc: Global, c: u8, edges: &[Triple]) -> Result<bool, Fail> {
     Ok(found.as_slice() == edges)
 }
 
+/// How many edges of one of the five constraints are to come, before the first and after it.
+fn counts_to_come(alloc: Global, c: u8) -> Result<(usize, usize), Fail> {
+    let config = five_constraints(alloc)?;
+    if c < config.constraint_count() {
+        if let Ok(mut stream) = EdgeStream::new(alloc, &config, 42, c) {
+            let all = stream.len();
+            let _ = stream.next_edge();
+            return Ok((all, stream.len()));
+        }
+    }
+    Err(Fail::new("no edges"))
+}
+
+#[test]
+fn edges_to_come(rt: HostRuntime) -> Result<(), Fail> {
+    for (c, counts) in [
+        (0, (3, 2)),
+        (1, (8, 7)),
+        (2, (0, 0)),
+        (3, (4, 3)),
+        (4, (4, 3)),
+    ] {
+        assert_eq!(rt; counts_to_come(rt.alloc(), c)?, counts);
+    }
+    Ok(())
+}
+
 #[test]
 fn edges_one_after_another(rt: HostRuntime) -> Result<(), Fail> {
     let edge = |src, label, trg| Triple { src, label, trg };

@@ -121,3 +121,27 @@ fn words(rt: HostRuntime) -> Result<(), Fail> {
     }
     Ok(())
 }
+
+/// Whether two numbers with a space between and LF behind, put together from the end in just the room of the longest such
+/// line, are these bytes.
+fn is_put_together(first: u32, second: u32, line: &[u8]) -> bool {
+    let mut text: BackwardText<22> = BackwardText::new();
+    text.end_with(b"\n");
+    text.put_number(second);
+    text.put(b" ");
+    text.put_number(first);
+    text.as_slice() == line
+}
+
+#[test]
+fn texts_from_their_ends(rt: HostRuntime) -> Result<(), Fail> {
+    for (first, second, line) in [
+        (0, 0, b"0 0\n".as_slice()),
+        (7, 1234567890, b"7 1234567890\n"),
+        (999999, 63, b"999999 63\n"),
+        (4294967295, 4294967295, b"4294967295 4294967295\n"),
+    ] {
+        assert!(rt; is_put_together(first, second, line));
+    }
+    Ok(())
+}

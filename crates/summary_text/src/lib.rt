@@ -6,8 +6,6 @@
 
 pub mod laws;
 mod summary;
-#[cfg(test)]
-mod tests;
 mod writing;
 
 pub use summary::Summary;

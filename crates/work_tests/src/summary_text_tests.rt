@@ -1,9 +1,7 @@
-//! The text of a small summary.
-use crate::summary::Summary;
-use crate::writing::write_summary;
 use sel_algebra::Class;
 use std::alloc::{AllocError, Global};
 use std::test::Fail;
+use summary_text::{Summary, write_summary};
 
 /// A summary of three constraints and three queries, written after other bytes.
 fn written(alloc: Global) -> Result<Vec<u8>, AllocError> {
